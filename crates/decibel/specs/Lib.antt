@@ -1,0 +1,9 @@
+pub mod Ints
+pub mod Greatest
+pub mod Log
+pub mod Round
+pub mod Sine
+pub mod Fine
+pub mod Table
+pub mod Lookup
+pub mod Tables
