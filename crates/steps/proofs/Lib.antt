@@ -1,0 +1,17 @@
+pub mod Lengths
+pub mod Read
+pub mod Kept
+pub mod Chain
+pub mod Figures
+pub mod Emission
+pub mod Angle
+pub mod Near
+pub mod Air
+pub mod Lies
+pub mod Loud
+pub mod Readings
+pub mod Ranged
+pub mod Steps
+pub mod Marks
+pub mod Path
+pub mod Sums

@@ -1,0 +1,23 @@
+-- `steps::checks::angles_kept` meets its contract.
+-- Assumes nothing.
+use borrow.Author.Needs.{needs}
+use Rattle.steps.specs.Rules.{anglesKept}
+use Rattle.steps.proofs.Read.{read}
+use Rattle.steps.proofs.checks.angles_kept.Statement.{statement}
+use Rattle.steps.proofs.checks.angles_kept.Tie as tie
+
+in-range-requires : tie.Need-in-range-requires
+in-range-requires c κs = search needs
+
+in-range-requires-2 : tie.Need-in-range-requires-2
+in-range-requires-2 c κs = search needs
+
+returns : tie.Need-returns
+unfolding anglesKept
+returns c =
+    let first = c .before .before .before in
+    let f = read (first .before .before .args .s) (c .before .struct-told3 .given) in
+    simp (first .in-range .ensures, c .in-range2 .ensures, f .view, f .doubled)
+
+pub angles-kept-spec : {M : Type 1} → statement M
+angles-kept-spec = tie.close (tie.spec in-range-requires in-range-requires-2 returns)

@@ -1,0 +1,23 @@
+-- `steps::checks::stands_between` meets its contract.
+-- Assumes nothing.
+use borrow.Author.Needs.{needs}
+use Rattle.decibel.proofs.Words.{back64}
+use Rattle.steps.proofs.Read.{read}
+use Rattle.steps.proofs.checks.stands_between.Statement.{statement}
+use Rattle.steps.proofs.checks.stands_between.Tie as tie
+
+plus-hundred-requires : tie.Need-plus-hundred-requires
+plus-hundred-requires c κs = search needs
+
+wide-requires : tie.Need-wide-requires
+wide-requires c κs = search needs
+
+returns : tie.Need-returns
+returns c =
+    let sum = c .before .before in
+    let f = read (sum .before .before .before .before .args .s) (c .before .struct-told3 .given) in
+    rw (back64 (sum .plus-hundred .result) (sum .plus-hundred .ok), back64 (c .wide .result) (c .wide .ok))
+    (simp (sum .plus-hundred .ensures, c .wide .ensures, f .setback, f .distance))
+
+pub stands-between-spec : {M : Type 1} → statement M
+stands-between-spec = tie.close (tie.spec plus-hundred-requires wide-requires returns)

@@ -1,0 +1,23 @@
+-- `steps::checks::trains_kept` meets its contract.
+-- Assumes nothing.
+use borrow.Author.Needs.{needs}
+use Rattle.steps.specs.Rules.{trainsKept}
+use Rattle.steps.proofs.Read.{train-read}
+use Rattle.steps.proofs.checks.trains_kept.Statement.{statement}
+use Rattle.steps.proofs.checks.trains_kept.Tie as tie
+
+in-range-requires : tie.Need-in-range-requires
+in-range-requires c κs = search needs
+
+in-range-requires-2 : tie.Need-in-range-requires-2
+in-range-requires-2 c κs = search needs
+
+returns : tie.Need-returns
+unfolding trainsKept
+returns c =
+    let first = c .before .before in
+    let f = train-read (first .before .before .args .t) (c .before .struct-told2 .given) in
+    simp (first .in-range .ensures, c .in-range2 .ensures, f .day, f .night)
+
+pub trains-kept-spec : {M : Type 1} → statement M
+trains-kept-spec = tie.close (tie.spec in-range-requires in-range-requires-2 returns)

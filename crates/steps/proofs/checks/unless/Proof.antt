@@ -1,0 +1,17 @@
+-- `steps::checks::unless` meets its contract.
+-- Assumes nothing.
+use mathlib.Core.Path.{refl}
+use Rattle.steps.specs.Refusal.{unless}
+use Rattle.steps.proofs.checks.unless.Statement.{statement}
+use Rattle.steps.proofs.checks.unless.Tie as tie
+
+returns : tie.Need-returns
+unfolding unless
+returns c = rw (c .if1 .taken) refl
+
+returns-2 : tie.Need-returns-2
+unfolding unless
+returns-2 c = rw (c .if1 .left) refl
+
+pub unless-spec : {M : Type 1} → statement M
+unless-spec = tie.close (tie.spec returns returns-2)

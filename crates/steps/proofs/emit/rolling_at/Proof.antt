@@ -1,0 +1,28 @@
+-- `steps::emit::rolling_at` meets its contract. The array is the definition's list.
+-- Assumes nothing.
+use borrow.Author.Needs.{needs}
+use mir.Facts.{toZ-ofZ}
+use Rattle.steps.specs.Step.{rollings}
+use Rattle.steps.proofs.Emission.{rolling-fits}
+use Rattle.steps.proofs.emit.rolling_at.Statement.{statement}
+use Rattle.steps.proofs.emit.rolling_at.Tie as tie
+
+sub-result : tie.Need-sub-result
+sub-result c = search needs
+
+mul-result : tie.Need-mul-result
+mul-result c = search needs
+
+array-read-result : tie.Need-array-read-result
+array-read-result c = search needs
+
+cast-result : tie.Need-cast-result
+unfolding rollings
+cast-result c = rolling-fits (c .args .row) (c .pre .0) (c .pre .1)
+
+returns : tie.Need-returns
+unfolding rollings
+returns c = toZ-ofZ (rolling-fits (c .args .row) (c .pre .0) (c .pre .1))
+
+pub rolling-at-spec : {M : Type 1} → statement M
+rolling-at-spec = tie.close (tie.spec sub-result mul-result array-read-result cast-result returns)

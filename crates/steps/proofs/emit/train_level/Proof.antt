@@ -1,0 +1,48 @@
+-- `steps::emit::train_level` meets its contract.
+-- Assumes nothing.
+use borrow.Author.Needs.{needs}
+use lib.Dec.{lit≤}
+use Rattle.steps.proofs.Figures.{summands}
+use Rattle.steps.proofs.Emission.{rolling-below, vehicles-asks, speed-asks, train-is}
+use Rattle.steps.proofs.emit.train_level.Statement.{statement}
+use Rattle.steps.proofs.emit.train_level.Tie as tie
+
+trains-step-requires : tie.Need-trains-step-requires
+trains-step-requires c κs = search needs
+
+rolling-requires : tie.Need-rolling-requires
+rolling-requires c κs = search needs
+
+plus-requires : tie.Need-plus-requires
+plus-requires c κs =
+    let start = c .before .before .before in
+    summands (c .before .trains-step .ensures .small) (rolling-below (start .args .train) (start .pre .0) (c .rolling .ensures)) (lit≤ tt)
+
+speed-step-requires : tie.Need-speed-step-requires
+speed-step-requires c κs = search needs
+
+vehicles-step-requires : tie.Need-vehicles-step-requires
+vehicles-step-requires c κs = search needs
+
+plus-requires-2 : tie.Need-plus-requires-2
+plus-requires-2 c κs =
+    let row = c .before .before .before in
+    let s = row .before .before .before in
+    vehicles-asks (s .args .period) (s .args .train) (c .before .speed-step .ensures) (c .vehicles-step .ensures) (row .before .trains-step .ensures) (s .pre .0) (row .rolling .ensures) (c .before .before .plus .ensures)
+
+plus-requires-3 : tie.Need-plus-requires-3
+plus-requires-3 c κs =
+    let v = c .before in
+    let row = v .before .before .before in
+    let s = row .before .before .before in
+    speed-asks (s .args .period) (s .args .train) (v .before .speed-step .ensures) (v .vehicles-step .ensures) (row .before .trains-step .ensures) (s .pre .0) (row .rolling .ensures) (v .before .before .plus .ensures) (c .plus2 .ensures)
+
+returns : tie.Need-returns
+returns c =
+    let v = c .before .before in
+    let row = v .before .before .before in
+    let s = row .before .before .before in
+    train-is (s .args .period) (s .args .train) (v .before .speed-step .ensures) (v .vehicles-step .ensures) (row .before .trains-step .ensures) (s .pre .0) (row .rolling .ensures) (v .before .before .plus .ensures) (c .before .plus2 .ensures) (c .plus3 .ensures)
+
+pub train-level-spec : {M : Type 1} → statement M
+train-level-spec = tie.close (tie.spec trains-step-requires rolling-requires plus-requires speed-step-requires vehicles-step-requires plus-requires-2 plus-requires-3 returns)

@@ -1,0 +1,38 @@
+-- `steps::emit::trains_in` meets its contract.
+-- Assumes nothing.
+use borrow.Author.Needs.{needs}
+use mathlib.Core.Path.{_∙_, ap}
+use Rattle.decibel.specs.Ints.{up}
+use Rattle.steps.specs.Step.{trainsIn}
+use Rattle.steps.proofs.Read.{train-read}
+use Rattle.steps.proofs.emit.trains_in.Statement.{statement}
+use Rattle.steps.proofs.emit.trains_in.Tie as tie
+
+enum-told : tie.Need-enum-told
+enum-told c = search needs
+
+natural-requires : tie.Need-natural-requires
+natural-requires c κs = search needs
+
+enum-told-2 : tie.Need-enum-told-2
+enum-told-2 c = search needs
+
+natural-requires-2 : tie.Need-natural-requires-2
+natural-requires-2 c κs = search needs
+
+returns : tie.Need-returns
+unfolding trainsIn
+returns c =
+    let told = c .before .before in
+    let start = told .before .before in
+    rw (told .enum-told .given .1) (c .natural .ensures ∙ ap up (train-read (start .args .train) (c .before .struct-told .given) .day))
+
+returns-2 : tie.Need-returns-2
+unfolding trainsIn
+returns-2 c =
+    let told = c .before .before in
+    let start = told .before .before in
+    rw (told .enum-told2 .given .1) (c .natural2 .ensures ∙ ap up (train-read (start .args .train) (c .before .struct-told2 .given) .night))
+
+pub trains-in-spec : {M : Type 1} → statement M
+trains-in-spec = tie.close (tie.spec enum-told natural-requires enum-told-2 natural-requires-2 returns returns-2)

@@ -1,0 +1,26 @@
+-- `steps::emit::vehicles_step` meets its contract.
+-- Assumes nothing.
+use borrow.Author.Needs.{needs}
+use mathlib.Core.Path.{_∙_, ap}
+use Rattle.decibel.specs.Ints.{up}
+use Rattle.steps.proofs.Figures.{tenths-read}
+use Rattle.steps.proofs.Read.{train-read}
+use Rattle.steps.proofs.Emission.{vehicles-is}
+use Rattle.steps.proofs.emit.vehicles_step.Statement.{statement}
+use Rattle.steps.proofs.emit.vehicles_step.Tie as tie
+
+natural-requires : tie.Need-natural-requires
+natural-requires c κs = search needs
+
+ten-log-requires : tie.Need-ten-log-requires
+ten-log-requires c κs = search needs
+
+returns : tie.Need-returns
+returns c =
+    let n = c .before in
+    let start = n .before .before .before in
+    let e = n .natural .ensures ∙ ap up (train-read (start .args .train) (n .before .struct-told .given) .vehicles) in
+    tenths-read (vehicles-is (start .args .train) (start .pre) e (c .ten-log .ensures))
+
+pub vehicles-step-spec : {M : Type 1} → statement M
+vehicles-step-spec = tie.close (tie.spec natural-requires ten-log-requires returns)

@@ -1,0 +1,36 @@
+-- `steps::path_difference` meets its contract.
+-- Assumes nothing.
+use borrow.Author.Needs.{needs}
+use native.Mathlib.Omega.{arith}
+use Rattle.steps.proofs.Lengths.{path-is}
+use Rattle.steps.proofs.path_difference.Statement.{statement}
+use Rattle.steps.proofs.path_difference.Tie as tie
+
+to-top-requires : tie.Need-to-top-requires
+to-top-requires c κs = search needs
+
+from-top-requires : tie.Need-from-top-requires
+from-top-requires c κs = search needs
+
+add-over : tie.Need-add-over
+add-over c = search needs
+
+direct-requires : tie.Need-direct-requires
+direct-requires c κs = search needs
+
+returns : tie.Need-returns
+returns c =
+    let d = c .before in
+    let f = d .before in
+    let t = f .before in
+    omega (arith, c .if1 .taken, path-is (t .before .args .s) (t .to-top .ensures) (f .from-top .ensures) (d .direct .ensures))
+
+returns-2 : tie.Need-returns-2
+returns-2 c =
+    let d = c .before in
+    let f = d .before in
+    let t = f .before in
+    path-is (t .before .args .s) (t .to-top .ensures) (f .from-top .ensures) (d .direct .ensures)
+
+pub path-difference-spec : {M : Type 1} → statement M
+path-difference-spec = tie.close (tie.spec to-top-requires from-top-requires add-over direct-requires returns returns-2)

@@ -1,0 +1,11 @@
+-- `steps::propagate::is_close` meets its contract.
+-- Assumes nothing.
+use borrow.Author.Needs.{needs}
+use Rattle.steps.proofs.propagate.is_close.Statement.{statement}
+use Rattle.steps.proofs.propagate.is_close.Tie as tie
+
+returns : tie.Need-returns
+returns c = search needs
+
+pub is-close-spec : {M : Type 1} → statement M
+is-close-spec = tie.close (tie.spec returns)

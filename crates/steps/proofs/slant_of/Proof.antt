@@ -1,0 +1,27 @@
+-- `steps::slant_of` meets its contract.
+-- Assumes nothing.
+use borrow.Author.Needs.{needs}
+use mathlib.Core.Path.{_∙_, ap, ap₂}
+use Prim.Native.Nat.{_+_}
+use mir.Facts.{toZ-ofZ}
+use Rattle.steps.specs.Geometry.{squared, slant}
+use Rattle.steps.proofs.slant_of.Statement.{statement}
+use Rattle.steps.proofs.slant_of.Tie as tie
+
+square-requires : tie.Need-square-requires
+square-requires c κs = search needs
+
+square-requires-2 : tie.Need-square-requires-2
+square-requires-2 c κs = search needs
+
+add-result : tie.Need-add-result
+add-result c = search needs
+
+returns : tie.Need-returns
+unfolding slant
+returns c =
+    let b = c .before .before in
+    ap₂ _+_ (c .before .square .ensures .is ∙ ap squared (toZ-ofZ (b .fits .x))) (c .square2 .ensures .is ∙ ap squared (toZ-ofZ (b .fits .y)))
+
+pub slant-of-spec : {M : Type 1} → statement M
+slant-of-spec = tie.close (tie.spec square-requires square-requires-2 add-result returns)

@@ -1,0 +1,22 @@
+-- `steps::to_top` meets its contract.
+-- Assumes nothing.
+use mathlib.Core.Path.{sym, subst}
+use borrow.Author.Needs.{needs}
+use Prim.Native.Nat.{ℕ, _≤_}
+use Rattle.steps.proofs.Lengths.{first-square, first-fits, length-by}
+use Rattle.steps.proofs.to_top.Statement.{statement}
+use Rattle.steps.proofs.to_top.Tie as tie
+
+slant-of-requires : tie.Need-slant-of-requires
+slant-of-requires c κs = search needs
+
+length-of-requires : tie.Need-length-of-requires
+length-of-requires c κs =
+    let p = c .before .before .before .pre in
+    subst (λ (n : ℕ). n ≤ 1800000000) (sym (first-square p (c .slant-of .ensures))) (first-fits p)
+
+returns : tie.Need-returns
+returns c = length-by (first-square (c .before .before .before .before .pre) (c .before .slant-of .ensures)) (c .length-of .ensures)
+
+pub to-top-spec : {M : Type 1} → statement M
+to-top-spec = tie.close (tie.spec slant-of-requires length-of-requires returns)

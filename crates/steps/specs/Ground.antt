@@ -1,0 +1,28 @@
+-- The ground step's close mark (01's term): which marks are allowed, and the program's own by name.
+-- Assumes nothing.
+use mathlib.Core.Path.{_≡_}
+use mathlib.Core.Bool.{Bool, true, false, cond, _&&_}
+use Prim.Native.Nat.{ℕ, _*_, _-_, _/_, _%_}
+use lib.Dec.{leb}
+use Rattle.decibel.specs.Ints.{up}
+use Rattle.decibel.specs.Fine.{fineLogAt}
+use Rattle.decibel.specs.Log.{AtLeast, AtMost}
+use Rattle.decibel.specs.Round.{MarkAllowed}
+use Rattle.steps.specs.declared.Segment.{Segment}
+use Rattle.steps.specs.Step.{groundFactor, grounded}
+
+-- on the exact value of the ground step; a segment where ground does not count is never marked
+unfoldable pub GroundMarkBy : Bool → Segment → Bool → Type 0
+GroundMarkBy true s mark = MarkAllowed (AtLeast 0 (groundFactor s) 2500 (up (s .distance))) (AtMost 0 (groundFactor s) 2500 (up (s .distance))) mark
+GroundMarkBy false s mark = mark ≡ false
+
+unfoldable pub GroundMark : Segment → Bool → Type 0
+GroundMark s mark = GroundMarkBy (grounded s) s mark
+
+-- the attenuation in microdecibels by the program's own logarithm: at most 151 too high, less than 2 too low
+unfoldable pub attenuation : Segment → ℕ
+attenuation s = (fineLogAt (4 * up (s .distance)) - 40000000) * groundFactor s / 10000000
+
+-- the program's own mark: that attenuation lies at most 0.0015 dB from a tie (`ground-mark-allowed` of proofs/Marks.antt: it is a `GroundMark`)
+unfoldable pub groundMark : Segment → Bool
+groundMark s = cond (grounded s) (leb 48500 (attenuation s % 100000) && leb (attenuation s % 100000) 51500) false

@@ -1,0 +1,239 @@
+// The steps of the memorandum for a segment and a train entry, and what turns their figures back.
+// Tables are those of `decibel`, lent. Every function is safe for any list, and exact on the tables.
+pub mod checks;
+pub mod emit;
+pub mod propagate;
+
+ghost use mathlib.Core.Path.{_≡_};
+ghost use Prim.Native.Nat.{_≤_};
+ghost use lib.IntN.{_+ℤ_, _-ℤ_, _*ℤ_};
+ghost use Rattle.decibel.specs.Ints.{up};
+ghost use Rattle.steps.specs.Geometry.{slant, slantSquare, pathDifference, inShadow};
+ghost use Rattle.steps.specs.Parts.{Below, Square, Length, Placed};
+ghost use Rattle.steps.specs.Refusal.{numberOf, checkNumber};
+ghost use Rattle.steps.specs.Rules.{within, unscreened};
+
+// One length of track as document 01 numbers its fields: lengths in centimetres, angles in degrees, readings in tenths.
+pub struct Segment {
+    // d, horizontal distance to the source line
+    pub distance: i32,
+    // h, window height above the railhead, negative below it
+    pub height: i32,
+    // H, mean height of propagation
+    pub mean: i32,
+    // I, share of soft ground in tenths
+    pub soft: i32,
+    // θ, angle of view
+    pub view: i32,
+    // a, twice the angle α of Figure 9
+    pub doubled: i32,
+    // 0 none, 1 absorbent, 2 reflective
+    pub screen: i32,
+    // D, source to screen
+    pub setback: i32,
+    // b, screen top above the railhead
+    pub top: i32,
+    // Chart 6(c) reading
+    pub chart: i32,
+    // Table 1 reading
+    pub track: i32,
+    // ballast reading
+    pub ballast: i32,
+    // 1 with a facade correction
+    pub facade: i32,
+    // θ', angle of opposite reflecting facades
+    pub opposite: i32,
+}
+
+// A train entry: row of Table A1.1, speed in km/h, vehicles, and trains by day and by night.
+pub struct Train {
+    pub row: i32,
+    pub speed: i32,
+    pub vehicles: i32,
+    pub day: i32,
+    pub night: i32,
+}
+
+pub enum Period {
+    Day,
+    Night,
+}
+
+// Why something is turned back, in the order of document 01's numbers.
+pub enum Refusal {
+    Distance,
+    Height,
+    Ground,
+    Angle,
+    Screen,
+    Shadow,
+    Reading,
+    Row,
+    Speed,
+    Vehicles,
+    Trains,
+    Form,
+    Contents,
+    NoSegment,
+    SegmentLimit,
+    EntryLimit,
+    NoEntry,
+    FewCells,
+}
+
+pub enum Check {
+    Accepted,
+    Refused(Refusal),
+}
+
+// What a segment adds to the level of each of its entries, and whether its ground step is marked as close to a tie.
+pub struct Propagation {
+    pub tenths: i32,
+    pub close: bool,
+}
+
+// Document 01's number of a refusal.
+pub fn number(refusal: Refusal) -> u32
+    ensures { λ r. ⌜ r ≡ numberOf refusal ⌝ }
+{
+    match refusal {
+        Refusal::Distance => 1,
+        Refusal::Height => 2,
+        Refusal::Ground => 3,
+        Refusal::Angle => 4,
+        Refusal::Screen => 5,
+        Refusal::Shadow => 6,
+        Refusal::Reading => 7,
+        Refusal::Row => 8,
+        Refusal::Speed => 9,
+        Refusal::Vehicles => 10,
+        Refusal::Trains => 11,
+        Refusal::Form => 12,
+        Refusal::Contents => 13,
+        Refusal::NoSegment => 20,
+        Refusal::SegmentLimit => 21,
+        Refusal::EntryLimit => 22,
+        Refusal::NoEntry => 23,
+        Refusal::FewCells => 24,
+    }
+}
+
+// The number of a check, 0 where nothing is refused.
+pub fn check_number(check: Check) -> u32
+    ensures { λ r. ⌜ r ≡ checkNumber check ⌝ }
+{
+    match check {
+        Check::Accepted => 0,
+        Check::Refused(refusal) => number(refusal),
+    }
+}
+
+// Whether x is from low to high.
+fn in_range(low: i32, high: i32, x: i32) -> bool
+    ensures { λ r. ⌜ r ≡ within low high x ⌝ }
+{
+    (low <= x) & (x <= high)
+}
+
+// The whole product of two numbers.
+fn product(a: i32, b: i32) -> i64
+    ensures { λ r. ⌜ r ≡ a *ℤ b ⌝ }
+{
+    (a as i64) * (b as i64)
+}
+
+fn plus(a: i32, b: i32) -> i32
+    requires { ⌜ Below 1000000 a × Below 1000000 b ⌝ }
+    ensures { λ r. ⌜ r ≡ a +ℤ b ⌝ }
+{
+    a + b
+}
+
+fn less(a: i32, b: i32) -> i32
+    requires { ⌜ Below 1000000 a × Below 1000000 b ⌝ }
+    ensures { λ r. ⌜ r ≡ a -ℤ b ⌝ }
+{
+    a - b
+}
+
+// The number, 0 where it is below zero.
+fn natural(a: i32) -> u64
+    ensures { λ r. ⌜ r ≡ up a ⌝ }
+{
+    if a < 0 {
+        return 0;
+    }
+    a as u64
+}
+
+fn square(a: i32) -> u64
+    ensures { λ r. ⌜ Square a r ⌝ }
+{
+    product(a, a) as u64
+}
+
+// The square of a length with legs x and y.
+fn slant_of(x: i32, y: i32) -> u64
+    ensures { λ r. ⌜ r ≡ slant x y ⌝ }
+{
+    square(x) + square(y)
+}
+
+// A length from its square, in hundred-thousandths of a centimetre.
+fn length_of(n: u64) -> u64
+    requires { ⌜ n ≤ 1800000000 ⌝ }
+    ensures { λ r. ⌜ Length n r ⌝ }
+{
+    decibel::root(10000000000 * n)
+}
+
+// Source to screen top.
+fn to_top(s: Segment) -> u64
+    requires { ⌜ Placed s ⌝ }
+    ensures { λ r. ⌜ Length (slant (s .setback) (s .top)) r ⌝ }
+{
+    length_of(slant_of(s.setback, s.top))
+}
+
+// Screen top to window.
+fn from_top(s: Segment) -> u64
+    requires { ⌜ Placed s ⌝ }
+    ensures { λ r. ⌜ Length (slant (s .distance -ℤ s .setback) (s .height -ℤ s .top)) r ⌝ }
+{
+    length_of(slant_of(less(s.distance, s.setback), less(s.height, s.top)))
+}
+
+// Source to window.
+fn direct(s: Segment) -> u64
+    requires { ⌜ Placed s ⌝ }
+    ensures { λ r. ⌜ Length (slantSquare s) r ⌝ }
+{
+    length_of(slant_of(s.distance, s.height))
+}
+
+// How much longer the way over the screen's top is than the direct one.
+fn path_difference(s: Segment) -> u64
+    requires { ⌜ Placed s ⌝ }
+    ensures { λ r. ⌜ r ≡ pathDifference s ⌝ }
+{
+    let over = to_top(s) + from_top(s);
+    let straight = direct(s);
+    if over < straight {
+        return 0;
+    }
+    over - straight
+}
+
+// The shadow test, on signed products.
+fn in_shadow(s: Segment) -> bool
+    ensures { λ r. ⌜ r ≡ inShadow s ⌝ }
+{
+    product(s.height, s.setback) <= product(s.top, s.distance)
+}
+
+// There is no screen.
+fn is_unscreened(s: Segment) -> bool
+    ensures { λ r. ⌜ r ≡ unscreened s ⌝ }
+{
+    in_range(0, 0, s.screen)
+}
