@@ -1,0 +1,99 @@
+-- An addition's check, and the study that it answers.
+-- Assumes nothing.
+use mathlib.Core.Path.{_≡_, refl}
+use mathlib.Core.Bool.{Bool, true, false, not}
+use Prim.Native.Nat.{ℕ, _≤_, _<_}
+use borrow.Author.Tests.{le-leb, lt-leb, eq-eqb, ne-eqb, leb-false, eqb-false}
+use lib.Dec.{leb, eqb}
+use Rattle.steps.specs.declared.Segment.{Segment}
+use Rattle.steps.specs.declared.Train.{Train}
+use Rattle.steps.specs.declared.Refusal.{Refusal}
+use Rattle.steps.specs.declared.Refusal.the-variants.{NoSegment, SegmentLimit, EntryLimit}
+use Rattle.steps.specs.declared.Check.{Check}
+use Rattle.steps.specs.declared.Check.the-variants.{Accepted, Refused}
+use Rattle.steps.specs.Refusal.{unless}
+use Rattle.steps.specs.Rules.{segmentCheck, trainCheck}
+use Rattle.study.specs.declared.Study.{Study}
+use Rattle.study.specs.declared.Added.{Added}
+use Rattle.study.specs.Add.{Limits, segmentAnswer, trainAnswer, answer}
+
+-- ---- the answer by its check
+
+pub refused-keeps : (check : Check) (r : Refusal) (old new : Study) → check ≡ Refused r → _≡_ {A = Added} (record { check = Refused r; study = old }) (answer check old new)
+unfolding answer
+refused-keeps check r old new e = rw e
+
+pub accepted-takes : (check : Check) (old new : Study) → check ≡ Accepted → _≡_ {A = Added} (record { check = Accepted; study = new }) (answer check old new)
+unfolding answer
+accepted-takes check old new e = rw e
+
+-- a statement of an answer's study, from those of its two cases
+pub by-answer : (P : Study → Type 0) (check : Check) (old new : Study) → P old → (check ≡ Accepted → P new) → P (answer check old new .study)
+unfolding answer
+by-answer P Accepted old new a b = b refl
+by-answer P (Refused r) old new a b = a
+
+-- ---- one line of a check: kept where nothing is refused, and the later ones with it
+
+kept-first : (b : Bool) (r : Refusal) (rest : Check) → unless (not b) r rest ≡ Accepted → b ≡ false
+unfolding unless
+kept-first true r rest e = cc
+kept-first false r rest e = refl
+
+kept-rest : (b : Bool) (r : Refusal) (rest : Check) → unless (not b) r rest ≡ Accepted → rest ≡ Accepted
+unfolding unless
+kept-rest true r rest e = cc
+kept-rest false r rest e = e
+
+-- ---- a segment: 21, then its own lines
+
+module _ (l : Limits) (count : ℕ) (s : Segment) where
+  pub segments-full : l .segments ≤ count → segmentAnswer l count s ≡ Refused SegmentLimit
+  unfolding segmentAnswer unless
+  segments-full h = simp (le-leb (l .segments) count h)
+
+  pub segments-room : count < l .segments → segmentAnswer l count s ≡ segmentCheck s
+  unfolding segmentAnswer unless
+  segments-room h = simp (lt-leb (l .segments) count h)
+
+  pub record SegmentTaken : Type 0 where
+    pub room : count < l .segments
+    pub kept : segmentCheck s ≡ Accepted
+
+  pub segment-taken : segmentAnswer l count s ≡ Accepted → SegmentTaken
+  unfolding segmentAnswer
+  segment-taken e =
+      record {
+        room = leb-false (l .segments) count (kept-first (leb (l .segments) count) SegmentLimit _ e);
+        kept = kept-rest (leb (l .segments) count) SegmentLimit (segmentCheck s) e;
+      }
+
+-- ---- a train: 20, then 22, then its own lines
+
+module _ (l : Limits) (count total : ℕ) (t : Train) where
+  pub no-segment : count ≡ 0 → trainAnswer l count total t ≡ Refused NoSegment
+  unfolding trainAnswer unless
+  no-segment e = simp (eq-eqb count 0 e)
+
+  pub entries-full : (count ≡ 0 → ⊥) → l .entries ≤ total → trainAnswer l count total t ≡ Refused EntryLimit
+  unfolding trainAnswer unless
+  entries-full some h = simp (ne-eqb count 0 some, le-leb (l .entries) total h)
+
+  pub entries-room : (count ≡ 0 → ⊥) → total < l .entries → trainAnswer l count total t ≡ trainCheck t
+  unfolding trainAnswer unless
+  entries-room some h = simp (ne-eqb count 0 some, lt-leb (l .entries) total h)
+
+  pub record TrainTaken : Type 0 where
+    pub some : count ≡ 0 → ⊥
+    pub room : total < l .entries
+    pub kept : trainCheck t ≡ Accepted
+
+  pub train-taken : trainAnswer l count total t ≡ Accepted → TrainTaken
+  unfolding trainAnswer
+  train-taken e =
+      let rest = kept-rest (eqb count 0) NoSegment _ e in
+      record {
+        some = eqb-false count 0 (kept-first (eqb count 0) NoSegment _ e);
+        room = leb-false (l .entries) total (kept-first (leb (l .entries) total) EntryLimit _ rest);
+        kept = kept-rest (leb (l .entries) total) EntryLimit (trainCheck t) rest;
+      }

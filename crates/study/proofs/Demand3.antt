@@ -1,0 +1,59 @@
+-- Demand 3: how far rounding carries a total, for every list of additions.
+-- Assumes nothing.
+use mathlib.Core.Path.{_≡_, refl, sym, _∙_, ap, subst}
+use mathlib.Core.Bool.{Bool, true, false, _||_}
+use mathlib.Core.List.{List, [], _∷_}
+use Prim.Native.Nat.{ℕ, _+_, _≤_, _<_}
+use native.Mathlib.Nat.{le-trans, zero-lt-suc}
+use native.Mathlib.Omega.{arith}
+use lib.IntN.{ℤ}
+use lib.ListN.{length}
+use borrow.Author.Tests.{lt-ltb, le-leb}
+use Rattle.steps.specs.declared.Period.{Period}
+use Rattle.steps.specs.declared.Period.the-variants.{Day, Night}
+use Rattle.steps.specs.declared.Check.{Check}
+use Rattle.steps.specs.declared.Check.the-variants.{Accepted}
+use Rattle.steps.specs.Refusal.{unless}
+use Rattle.study.specs.declared.Entry.{Entry}
+use Rattle.study.specs.declared.request.Answer.{Answer}
+use Rattle.study.specs.Plan.{Plan, planOf}
+use Rattle.study.specs.Add.{Limits}
+use Rattle.study.specs.Run.{Addition, run, accepted, Roomy}
+use Rattle.study.specs.Levels.{Marks, resultBy}
+use Rattle.study.specs.Request.{cellsNeeded, levelsCheck, answerBy, AnsweredBy, Answered, resultIn}
+use Rattle.study.specs.Accuracy.{hasTrains, AccurateToBare, Demand3}
+use Rattle.study.proofs.Plans.{accepted-held}
+use Rattle.study.proofs.Runs.{run-accepted}
+use Rattle.study.proofs.Entries.{result-accurate}
+
+some-entry : (p : Period) (es : List Entry) → hasTrains p es ≡ true → 0 < length es
+unfolding hasTrains
+some-entry p [] h = absurd (let z : _≡_ {A = ℕ} 0 1 = cc in omega arith)
+some-entry p (e ∷ es) h = zero-lt-suc (length es)
+
+-- a request with an entry and enough cells is answered
+pub request-answered : (plan : Plan) (n : ℕ) → 0 < length (plan .entries) → cellsNeeded (length (plan .entries)) ≤ n → levelsCheck plan n ≡ Accepted
+unfolding levelsCheck unless
+request-answered plan n some enough = rw (lt-ltb 0 (length (plan .entries)) some, le-leb (cellsNeeded (length (plan .entries))) n enough) refl
+
+result-in : (p : Period) (plan : Plan) (m : Marks) → resultIn p (answerBy Accepted plan m) ≡ resultBy p plan m
+unfolding resultIn answerBy
+result-in Day plan m = refl
+result-in Night plan m = refl
+
+pub demand-3 : Demand3
+unfolding answerBy
+demand-3 l roomy additions p trains m before after r enough by =
+    let plan = accepted l additions in
+    let held = accepted-held l additions in
+    let check : levelsCheck plan (length before) ≡ Accepted = request-answered plan (length before) (some-entry p (plan .entries) trains) enough in
+    let whole : r ≡ answerBy Accepted plan m = rw (run-accepted l roomy additions, check) at (by .answer) in (
+      ap (λ (a : Answer). a .check) whole,
+      rw (whole, result-in p plan m) (result-accurate p plan m held (le-trans (held .total) (roomy .entries)) trains),
+    )
+
+-- The same of what `levels` ensures, by the program's own marks.
+pub levels-accurate : (l : Limits) → Roomy l → (additions : List Addition) (p : Period) → hasTrains p (accepted l additions .entries) ≡ true →
+    (before after : List ℤ) (r : Answer) → cellsNeeded (length (accepted l additions .entries)) ≤ length before → Answered (run l additions) before after r →
+    AccurateToBare p (accepted l additions) (resultIn p r)
+levels-accurate l roomy additions p trains before after r enough a = demand-3 l roomy additions p trains _ before after r enough (a .by) .1

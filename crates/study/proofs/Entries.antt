@@ -1,0 +1,134 @@
+-- The entries of a sound plan: each level near its fence, in the order of the entries, and so the total near the bare level.
+-- Assumes nothing.
+use mathlib.Core.Path.{_≡_, refl, sym, _∙_, ap, subst}
+use mathlib.Core.Bool.{Bool, true, false, cond, _||_}
+use mathlib.Core.List.{List, [], _∷_, map}
+use Prim.Native.Nat.{ℕ, zero, suc, _+_, _*_, _-_, _≤_, _<_, zero-le, suc-le-suc}
+use native.Mathlib.Nat.{le-trans, le-refl, le-suc, lt-irrefl, zero-lt-suc}
+use native.Mathlib.Omega.{arith}
+use lib.IntN.{ℤ, pos, negsuc, _+ℤ_}
+use lib.Signed.{_≤ℤ_, _<ℤ_}
+use lib.ListN.{length}
+use lib.Dec.{lit≤}
+use Rattle.decibel.specs.Round.{micro, byMark, Near}
+use Rattle.decibel.specs.declared.Level.{Level}
+use Rattle.decibel.specs.declared.Level.the-variants.{Silent, Figure}
+use Rattle.energy.specs.Energy.{added, BareLevel, bareAt}
+use Rattle.energy.specs.Total.{energies, totalBy}
+use Rattle.energy.specs.Accuracy.{Entries, none, next}
+use Rattle.energy.specs.Accuracy as Totals
+use Rattle.energy.proofs.Accurate.{accurate, entries-bare}
+use Rattle.energy.proofs.Bare.{bare-same}
+use Rattle.steps.proofs.Near.{near-entry}
+use Rattle.steps.proofs.Loud.{entry-loud}
+use Rattle.steps.specs.declared.Segment.{Segment}
+use Rattle.steps.specs.declared.Train.{Train}
+use Rattle.steps.specs.declared.Period.{Period}
+use Rattle.steps.specs.declared.Period.the-variants.{Day, Night}
+use Rattle.steps.specs.declared.Check.the-variants.{Accepted}
+use Rattle.steps.specs.Refusal.{isAccepted}
+use Rattle.steps.specs.Rules.{segmentCheck, trainCheck}
+use Rattle.steps.specs.Entry.{sounds, entryFence, entryTenths, emissionOf, propagationBy, raised, levelBy}
+use Rattle.study.specs.declared.Entry.{Entry}
+use Rattle.study.specs.declared.request.PeriodResult.{PeriodResult}
+use Rattle.study.specs.Plan.{Plan, segmentAt}
+use Rattle.study.specs.Add.{Limits}
+use Rattle.study.specs.Run.{Each, EntryHeld, Held}
+use Rattle.study.specs.Run as Run
+use Rattle.study.specs.Levels.{Marks, markAt, totalMarkIn, levelAt, levelsOf, figures, limitOf, metBy, resultFrom, resultBy, closeSegments}
+use Rattle.study.proofs.Plans.{segment-kept}
+use Rattle.study.specs.Accuracy.{fencesOf, Bare, hasTrains, alwaysFrom, neverBelow, Accurate, AccurateToBare}
+
+-- an accepted entry's level: the sum of its tenths where it has trains, else silent
+module _ (p : Period) (s : Segment) (mark : Bool) (t : Train) (kept-segment : segmentCheck s ≡ Accepted) (kept-train : trainCheck t ≡ Accepted) where
+  pub level-figure : sounds p t ≡ true → levelBy p s mark t ≡ Figure (entryTenths p s mark t)
+  unfolding levelBy propagationBy emissionOf isAccepted raised entryTenths
+  level-figure e = rw (kept-segment, kept-train, e) refl
+
+  pub level-silent : sounds p t ≡ false → levelBy p s mark t ≡ Silent
+  unfolding levelBy propagationBy emissionOf isAccepted raised
+  level-silent e = rw (kept-segment, kept-train, e) refl
+
+-- the fences and the figures of the entries that have trains in a period
+pub entries-near : (p : Period) {l : Limits} (plan : Plan) (m : Marks) → Held l plan → {es : List Entry} → Each (EntryHeld (plan .segments)) es → Entries (fencesOf p plan es) (figures (map (levelAt p plan m) es))
+unfolding fencesOf figures levelAt
+entries-near p plan m held Run.Each.none = none
+entries-near p plan m held (Run.Each.next {x = e} {xs = es} at rest) = go (sounds p (e .train)) refl (entries-near p plan m held rest)
+  where
+    s : Segment
+    s = segmentAt plan (e .segment)
+
+    mark : Bool
+    mark = markAt m (e .segment)
+
+    kept : segmentCheck s ≡ Accepted
+    kept = segment-kept plan held (e .segment) (at .segment)
+
+    go : (b : Bool) → sounds p (e .train) ≡ b → Entries (fencesOf p plan es) (figures (map (levelAt p plan m) es)) → Entries (fencesOf p plan (e ∷ es)) (figures (map (levelAt p plan m) (e ∷ es)))
+    go true q r = rw (q, level-figure p s mark (e .train) kept (at .train) q) (next (near-entry p s mark (e .train)) (entry-loud p s (e .train) kept (at .train) q) r)
+    go false q r = rw (q, level-silent p s mark (e .train) kept (at .train) q) r
+
+-- no more fences than entries, and one where some entry has trains
+fences-few : (p : Period) (plan : Plan) (es : List Entry) → length (fencesOf p plan es) ≤ length es
+unfolding fencesOf
+fences-few p plan [] = zero-le
+fences-few p plan (e ∷ es) = go (sounds p (e .train)) (fences-few p plan es)
+  where
+    go : (b : Bool) → length (fencesOf p plan es) ≤ length es → length (cond b (entryFence p (segmentAt plan (e .segment)) (e .train) ∷ fencesOf p plan es) (fencesOf p plan es)) ≤ suc (length es)
+    go true h = suc-le-suc h
+    go false h = le-trans h (le-suc (length es))
+
+fences-some : (p : Period) (plan : Plan) (es : List Entry) → hasTrains p es ≡ true → 0 < length (fencesOf p plan es)
+unfolding fencesOf hasTrains
+fences-some p plan [] h = absurd (let z : _≡_ {A = ℕ} 0 1 = cc in omega arith)
+fences-some p plan (e ∷ es) h = go (sounds p (e .train)) h (fences-some p plan es)
+  where
+    go : (b : Bool) → (b || hasTrains p es) ≡ true → (hasTrains p es ≡ true → 0 < length (fencesOf p plan es)) → 0 < length (cond b (entryFence p (segmentAt plan (e .segment)) (e .train) ∷ fencesOf p plan es) (fencesOf p plan es))
+    go true q r = zero-lt-suc (length (fencesOf p plan es))
+    go false q r = r q
+
+-- a total that is a figure
+figure-of : (mark : Bool) {fs rs : List ℤ} → Entries fs rs → 0 < length fs → totalBy mark rs .level ≡ Figure (byMark mark (bareAt (energies rs)))
+unfolding totalBy
+figure-of mark none h = absurd (lt-irrefl 0 h)
+figure-of mark (next near loud es) h = refl
+
+always-is : (p : Period) → alwaysFrom p ≡ pos (1000000 * limitOf p - 40000)
+unfolding alwaysFrom limitOf
+always-is Day = refl
+always-is Night = refl
+
+never-is : (p : Period) → neverBelow p ≡ pos (1000000 * limitOf p - 960000)
+unfolding neverBelow limitOf
+never-is Day = refl
+never-is Night = refl
+
+some-limit : (p : Period) → 1 ≤ limitOf p
+unfolding limitOf
+some-limit Day = lit≤ tt
+some-limit Night = lit≤ tt
+
+-- A period's result by any marks is accurate to the plan's bare level.
+pub result-accurate : (p : Period) {l : Limits} (plan : Plan) (m : Marks) → Held l plan → length (plan .entries) ≤ 96 → hasTrains p (plan .entries) ≡ true → AccurateToBare p plan (resultBy p plan m)
+unfolding Bare resultBy resultFrom levelsOf metBy
+result-accurate p plan m held few trains =
+    let es = entries-near p plan m held (held .entries) in
+    let some = fences-some p plan (plan .entries) trains in
+    let b = bareAt (added (fencesOf p plan (plan .entries))) in
+    let is = entries-bare es some in
+    let mark = totalMarkIn p m in
+    let level = figure-of mark es some in
+    let a = accurate (limitOf p) mark b (some-limit p) es some (le-trans (fences-few p plan (plan .entries)) few) is in
+    record {
+      bare = b;
+      is = is;
+      only = λ c h. bare-same (added (fencesOf p plan (plan .entries))) c b h is;
+      accurate = record {
+        figure = byMark mark (bareAt (energies (figures (map (levelAt p plan m) (plan .entries)))));
+        level = level;
+        above = a .above;
+        below = a .below;
+        always = λ h. rw level (a .always (rw (always-is p) at h));
+        never = λ h. rw level (a .never (rw (never-is p) at h));
+      };
+    }

@@ -1,0 +1,14 @@
+pub mod Additions
+pub mod Runs
+pub mod Plans
+pub mod Sizes
+pub mod Found
+pub mod Cells
+pub mod Verdicts
+pub mod Hearing
+pub mod Totals
+pub mod Counts
+pub mod Results
+pub mod Answers
+pub mod Entries
+pub mod Demand3

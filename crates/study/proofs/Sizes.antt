@@ -1,0 +1,58 @@
+-- How many segments and entries a study's plan has, and what stands at their places.
+-- Assumes nothing.
+use mathlib.Core.Path.{_≡_, sym, ap, _∙_}
+use mathlib.Core.List.{List, [], _∷_}
+use Prim.Native.Nat.{ℕ, _<_, _≤_, min}
+use native.Mathlib.Omega.{arith}
+use lib.ListN.{length, getD, take, length-take, length-map}
+use lib.Seq.{getD-take}
+use denote.Laws.{Is}
+use denote.Struct.Declared.{row}
+use denote.Struct.Laws.{val}
+use Rattle.study.specs.declared.Study.{Study}
+use Rattle.study.proofs.Study.{the-type as study-type}
+use Rattle.study.proofs.Study.Laws.{the-laws as study-laws}
+use Rattle.study.specs.Plan.{planOf, segmentAt, noSegment, noEntry}
+
+-- what the borrow checker gives of a study that is passed by value
+abbrev pub Passed : Study → Type 0
+Passed st = Is (row study-type) st (val study-type study-laws st ∷ [])
+
+segments-size : (st : Study) → Passed st → length (st .segments) ≡ 24
+segments-size st g = simp length-map at (g .1 .1 .0 .1 .0 .1)
+
+entries-size : (st : Study) → Passed st → length (st .entries) ≡ 96
+entries-size st g = simp length-map at (g .1 .1 .1 .1 .0 .1 .0 .1)
+
+-- the part of a list that counts
+taken-length : {A : Type 0} (xs : List A) (n size r : ℕ) → length xs ≡ size → r ≡ min n size → r ≡ length (take n xs)
+taken-length xs n size r e h = h ∙ ap (min n) (sym e) ∙ sym (length-take n xs)
+
+taken-most : {A : Type 0} (xs : List A) (n i : ℕ) → i < length (take n xs) → i < n
+taken-most xs n i h = omega (arith, length-take n xs)
+
+module _ (st : Study) (passed : Passed st) where
+  pub plan-count : {r : ℕ} → r ≡ min (st .count) 24 → r ≡ length (planOf st .segments)
+  unfolding planOf
+  plan-count {r} = taken-length (st .segments) (st .count) 24 r (segments-size st passed)
+
+  pub plan-total : {r : ℕ} → r ≡ min (st .total) 96 → r ≡ length (planOf st .entries)
+  unfolding planOf
+  plan-total {r} = taken-length (st .entries) (st .total) 96 r (entries-size st passed)
+
+  pub few-segments : length (planOf st .segments) ≤ 24
+  unfolding planOf
+  few-segments = omega (arith, segments-size st passed, length-take (st .count) (st .segments))
+
+  pub few-entries : length (planOf st .entries) ≤ 96
+  unfolding planOf
+  few-entries = omega (arith, entries-size st passed, length-take (st .total) (st .entries))
+
+module _ (st : Study) where
+  pub plan-segment : (k : ℕ) → k < length (planOf st .segments) → segmentAt (planOf st) k ≡ getD (st .segments) k noSegment
+  unfolding planOf
+  plan-segment k h = getD-take (st .count) (st .segments) k noSegment (taken-most (st .segments) (st .count) k h)
+
+  pub plan-entry : (i : ℕ) → i < length (planOf st .entries) → getD (planOf st .entries) i noEntry ≡ getD (st .entries) i noEntry
+  unfolding planOf
+  plan-entry i h = getD-take (st .total) (st .entries) i noEntry (taken-most (st .entries) (st .total) i h)

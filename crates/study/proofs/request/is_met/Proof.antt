@@ -1,0 +1,30 @@
+-- `study::request::is_met` meets its contract.
+-- Assumes nothing.
+use borrow.Author.Needs.{needs}
+use Rattle.decibel.proofs.Words.{back}
+use Rattle.study.proofs.Verdicts.{silent-unmet, met-from}
+use Rattle.study.proofs.request.is_met.Statement.{statement}
+use Rattle.study.proofs.request.is_met.Tie as tie
+
+enum-told : tie.Need-enum-told
+enum-told c = search needs
+
+enum-known-level : tie.Need-enum-known-level
+enum-known-level c = search needs
+
+limit-tenths-requires : tie.Need-limit-tenths-requires
+limit-tenths-requires c κs = search needs
+
+returns : tie.Need-returns
+returns c = silent-unmet (c .before .before .args .period) (c .before .before .args .level) (c .enum-told .given .1)
+
+returns-2 : tie.Need-returns-2
+returns-2 c =
+    let a = c .before .before .before .before .args in
+    let e = c .before .before .level .given in
+    let l = c .limit-tenths in
+    rw (back (l .result) (l .ok), back (e .0 .0) (c .before .known-told .given .0 .1), l .ensures) (met-from (a .period) (a .level) (e .0 .0) (e .1))
+
+pub is-met-spec : {M : Type 1} → statement M
+is-met-spec =
+    tie.close (tie.spec enum-told enum-known-level limit-tenths-requires returns returns-2)

@@ -1,0 +1,51 @@
+-- The additions to a study: what each answers, for every study and every figure (01, "Turned back").
+-- Assumes nothing.
+use mathlib.Core.Bool.{Bool, not}
+use Prim.Native.Nat.{ℕ, _+_, _-_}
+use lib.Dec.{leb, eqb}
+use lib.ListN.{set}
+use Rattle.steps.specs.declared.Segment.{Segment}
+use Rattle.steps.specs.declared.Train.{Train}
+use Rattle.steps.specs.declared.Refusal.the-variants.{NoSegment, SegmentLimit, EntryLimit}
+use Rattle.steps.specs.declared.Check.{Check}
+use Rattle.steps.specs.declared.Check.the-variants.{Accepted, Refused}
+use Rattle.steps.specs.Refusal.{unless}
+use Rattle.steps.specs.Rules.{segmentCheck, trainCheck}
+use Rattle.study.specs.declared.Study.{Study}
+use Rattle.study.specs.declared.Added.{Added}
+
+-- how many segments and entries a study may hold
+pub record Limits : Type 0 where
+  pub segments : ℕ
+  pub entries : ℕ
+
+abbrev pub ours : Limits
+ours = record { segments = 24; entries = 96 }
+
+-- with so many segments held: 21, then the segment's own lines
+unfoldable pub segmentAnswer : Limits → ℕ → Segment → Check
+segmentAnswer l count s = unless (not (leb (l .segments) count)) SegmentLimit (segmentCheck s)
+
+-- with so many segments and entries held: 20, then 22, then the train's own lines
+unfoldable pub trainAnswer : Limits → ℕ → ℕ → Train → Check
+trainAnswer l count total t = unless (not (eqb count 0)) NoSegment (unless (not (leb (l .entries) total)) EntryLimit (trainCheck t))
+
+-- the study with the segment after its last
+unfoldable pub withSegment : Study → Segment → Study
+withSegment st s = record { segments = set (st .segments) (st .count) s; count = st .count + 1; entries = st .entries; total = st .total }
+
+-- the study with the train after its last entry, at its last segment
+unfoldable pub withTrain : Study → Train → Study
+withTrain st t =
+    record { segments = st .segments; count = st .count; entries = set (st .entries) (st .total) (record { segment = st .count - 1; train = t }); total = st .total + 1 }
+
+-- a refusal with the study as it was, or the new study
+unfoldable pub answer : Check → Study → Study → Added
+answer Accepted old new = record { check = Accepted; study = new }
+answer (Refused r) old new = record { check = Refused r; study = old }
+
+unfoldable pub addSegment : Limits → Study → Segment → Added
+addSegment l st s = answer (segmentAnswer l (st .count) s) st (withSegment st s)
+
+unfoldable pub addTrain : Limits → Study → Train → Added
+addTrain l st t = answer (trainAnswer l (st .count) (st .total) t) st (withTrain st t)

@@ -1,0 +1,96 @@
+-- A list of additions from the empty study, refused ones in it (01, "Contracts and evidence"): the study that it makes, and what the list alone says was accepted.
+-- Assumes nothing.
+use mathlib.Core.Path.{_≡_}
+use mathlib.Core.List.{List, [], _∷_, _++_}
+use Prim.Native.Nat.{ℕ, _-_, _≤_, _<_}
+use lib.ListN.{length}
+use Rattle.steps.specs.declared.Segment.{Segment}
+use Rattle.steps.specs.declared.Train.{Train}
+use Rattle.steps.specs.declared.Check.{Check}
+use Rattle.steps.specs.declared.Check.the-variants.{Accepted, Refused}
+use Rattle.steps.specs.Rules.{segmentCheck, trainCheck}
+use Rattle.study.specs.declared.Entry.{Entry}
+use Rattle.study.specs.declared.Study.{Study}
+use Rattle.study.specs.Plan.{Plan, emptyPlan, emptyStudy}
+use Rattle.study.specs.Add.{Limits, segmentAnswer, trainAnswer, addSegment, addTrain}
+
+pub data Addition : Type 0 where
+  segment : Segment → Addition
+  train : Train → Addition
+
+-- each addition gets the study that the one before it returned, refused or not
+unfoldable pub step : Limits → Study → Addition → Study
+step l st (segment s) = addSegment l st s .study
+step l st (train t) = addTrain l st t .study
+
+unfoldable pub runFrom : Limits → Study → List Addition → Study
+runFrom l st [] = st
+runFrom l st (a ∷ rest) = runFrom l (step l st a) rest
+
+unfoldable pub run : Limits → List Addition → Study
+run l additions = runFrom l emptyStudy additions
+
+-- ---- over plain lists: the accepted ones in order, each entry with the last accepted segment before it
+
+unfoldable pub kept : Check → Plan → Plan → Plan
+kept Accepted old new = new
+kept (Refused r) old new = old
+
+unfoldable pub extend : Limits → Plan → Addition → Plan
+extend l p (segment s) =
+    kept (segmentAnswer l (length (p .segments)) s) p (record { segments = p .segments ++ (s ∷ []); entries = p .entries })
+extend l p (train t) =
+    kept (trainAnswer l (length (p .segments)) (length (p .entries)) t) p
+    (record { segments = p .segments; entries = p .entries ++ (record { segment = length (p .segments) - 1; train = t } ∷ []) })
+
+unfoldable pub extendAll : Limits → Plan → List Addition → Plan
+extendAll l p [] = p
+extendAll l p (a ∷ rest) = extendAll l (extend l p a) rest
+
+unfoldable pub accepted : Limits → List Addition → Plan
+accepted l additions = extendAll l emptyPlan additions
+
+-- limits that the arrays of a study have room for
+pub record Roomy (l : Limits) : Type 0 where
+  pub segments : l .segments ≤ 24
+  pub entries : l .entries ≤ 96
+
+-- ---- what runs and their plans have
+
+-- P holds of each element
+pub data Each {A : Type 0} (P : A → Type 0) : List A → Type 0 where
+  none : Each P []
+  next : {x : A} {xs : List A} → P x → Each P xs → Each P (x ∷ xs)
+
+-- an entry that an addition has made: of one of the segments, with a train that keeps its lines
+pub record EntryHeld (segments : List Segment) (e : Entry) : Type 0 where
+  pub segment : e .segment < length segments
+  pub train : trainCheck (e .train) ≡ Accepted
+
+-- a plan that additions have made
+pub record Held (l : Limits) (plan : Plan) : Type 0 where
+  pub count : length (plan .segments) ≤ l .segments
+  pub total : length (plan .entries) ≤ l .entries
+  pub segments : Each (λ (s : Segment). segmentCheck s ≡ Accepted) (plan .segments)
+  pub entries : Each (EntryHeld (plan .segments)) (plan .entries)
+
+-- a study of the size that its type has, with counts within the limits
+pub record Sized (l : Limits) (st : Study) : Type 0 where
+  pub count : st .count ≤ l .segments
+  pub total : st .total ≤ l .entries
+  pub places : length (st .segments) ≡ 24
+  pub rows : length (st .entries) ≡ 96
+
+-- ---- the additions of a list that are not refused
+
+unfoldable pub checkOf : Limits → Plan → Addition → Check
+checkOf l p (segment s) = segmentAnswer l (length (p .segments)) s
+checkOf l p (train t) = trainAnswer l (length (p .segments)) (length (p .entries)) t
+
+unfoldable pub keptOne : Check → Addition → List Addition → List Addition
+keptOne Accepted a rest = a ∷ rest
+keptOne (Refused r) a rest = rest
+
+unfoldable pub acceptedOnly : Limits → Plan → List Addition → List Addition
+acceptedOnly l p [] = []
+acceptedOnly l p (a ∷ rest) = keptOne (checkOf l p a) a (acceptedOnly l (extend l p a) rest)
