@@ -1,0 +1,9 @@
+pub mod Bytes
+pub mod Values
+pub mod Positions
+pub mod Fields
+pub mod Entries
+pub mod Places
+pub mod Rest
+pub mod Runs
+pub mod Refusals

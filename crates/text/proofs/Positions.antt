@@ -1,0 +1,154 @@
+-- The next number of a line, by position: what stands there, and what it says of all the line's numbers.
+-- Assumes nothing.
+use mathlib.Core.Path.{_≡_, refl, sym, ap, _∙_}
+use mathlib.Core.Logic.{⊎-elim, _⊎_, inl, inr}
+use Prim.Native.Nat.{ℕ, suc, _+_, _-_, _^_, _≤_, _<_}
+use mathlib.Core.List.{List, [], _∷_, map}
+use mathlib.Core.Bool.{Bool, true, false, cond}
+use mathlib.Core.Option.{Option, none, some}
+use native.Mathlib.Omega.{arith}
+use lib.ListN.{length, take, drop, length-drop}
+use lib.Seq.{drop-drop}
+use lib.Dec.{ltb}
+use lib.Signed.{mag}
+use lib.IntN.{ℤ}
+use mir.Syntax.{w32}
+use mir.Val.{toZ, ofZ}
+use mir.Facts.{toZ-ofZ}
+use borrow.Author.Tests.{le-leb, lt-leb, lt-ltb, le-ltb, ltb-true, ltb-false}
+use Rattle.text.specs.Bytes.{until, split}
+use Rattle.text.specs.Numbers.{valueOf, front, every, numbersOf, numberAs, numberAt}
+use Rattle.text.specs.Parts.{wordAs, numbersFrom}
+use Rattle.text.specs.declared.numbers.Number.the-variants as N
+use Rattle.text.specs.declared.numbers.Word.{Word}
+use Rattle.text.specs.declared.numbers.Word.the-variants as W
+use Rattle.text.proofs.Bytes.{take-until, split-first}
+
+pub lt-or-ge : (a b : ℕ) → (a < b) ⊎ (b ≤ a)
+lt-or-ge a b = go (ltb a b) refl
+  where
+    go : (t : Bool) → ltb a b ≡ t → (a < b) ⊎ (b ≤ a)
+    go true e = inl (ltb-true a b e)
+    go false e = inr (ltb-false a b e)
+
+-- ---- what `number_at` returns on each way
+
+word-some : (o : Option ℤ) (v : ℤ) → wordAs o ≡ W.Value v → o ≡ some v
+unfolding wordAs
+word-some none v e = cc
+word-some (some m) v e = cc
+
+word-none : (o : Option ℤ) → wordAs o ≡ W.Malformed → o ≡ none
+unfolding wordAs
+word-none none e = refl
+word-none (some m) e = cc
+
+module _ (line : List ℕ) (at : ℕ) where
+  pub number-past : length line < at → N.Malformed ≡ numberAt line at
+  unfolding numberAt
+  number-past h = rw (lt-leb at (length line) h)
+
+  module _ {end : ℕ} {r : Word} (h : at ≤ length line) (e : end ≡ at + length (until 32 (drop at line)))
+      (q : r ≡ wordAs (valueOf (take (end - at) (drop at line)))) where
+    word-is : r ≡ wordAs (valueOf (until 32 (drop at line)))
+    word-is =
+        let k : end - at ≡ length (until 32 (drop at line)) = omega arith in
+        rw (← take-until 32 (drop at line), ← k) q
+
+    pub number-none : r ≡ W.Malformed → N.Malformed ≡ numberAt line at
+    unfolding numberAt numberAs
+    number-none p = rw (le-leb at (length line) h, word-none _ (sym word-is ∙ p))
+
+    pub number-some : (v : ℤ) → r ≡ W.Value v → N.Value v (end + 1) ≡ numberAt line at
+    unfolding numberAt numberAs
+    number-some v p = rw (le-leb at (length line) h, word-some _ v (sym word-is ∙ p), e)
+
+-- ---- what stands at a position
+
+pub past-end : (line : List ℕ) (at : ℕ) → length line < at → numbersFrom line at ≡ some []
+unfolding numbersFrom
+past-end line at h = rw (lt-leb at (length line) h)
+
+pub whole-line : (line : List ℕ) → numbersFrom line 0 ≡ numbersOf line
+unfolding numbersFrom
+whole-line line = rw (le-leb 0 (length line) (omega arith))
+
+-- the first word's number, then those after it
+abbrev firstThen : Option ℤ → Option (List ℤ) → Option (List ℤ)
+firstThen none o = none
+firstThen (some v) o = front v o
+
+every-first : (o : Option ℤ) (os : List (Option ℤ)) → every (o ∷ os) ≡ firstThen o (every os)
+unfolding every
+every-first none os = refl
+every-first (some v) os = refl
+
+word-then-rest : (line : List ℕ) (at : ℕ) → at ≤ length line
+    → numbersFrom line at ≡ firstThen (valueOf (until 32 (drop at line))) (numbersFrom line (at + length (until 32 (drop at line)) + 1))
+unfolding numbersFrom numbersOf every
+word-then-rest line at h =
+    rw (le-leb at (length line) h, split-first 32 (drop at line), every-first)
+    (ap (firstThen (valueOf (until 32 (drop at line)))) (⊎-elim more last (lt-or-ge k (length (drop at line)))))
+  where
+    k : ℕ
+    k = length (until 32 (drop at line))
+
+    rest : Option (List ℤ)
+    rest = every (map valueOf (cond (ltb k (length (drop at line))) (split 32 (drop (suc k) (drop at line))) []))
+
+    more : k < length (drop at line) → rest ≡ numbersFrom line (at + k + 1)
+    more l =
+        let b : at + k + 1 ≤ length line = omega (arith, length-drop at line) in
+        let e : at + suc k ≡ at + k + 1 = omega arith in
+        rw (lt-ltb k (length (drop at line)) l, drop-drop (suc k) at line, e, le-leb (at + k + 1) (length line) b)
+
+    last : length (drop at line) ≤ k → rest ≡ numbersFrom line (at + k + 1)
+    last l =
+        let b : length line < at + k + 1 = omega (arith, length-drop at line) in
+        rw (le-ltb k (length (drop at line)) l, lt-leb (at + k + 1) (length line) b)
+
+-- nothing past the end, a word of wrong form, or a number and where the next word starts
+pub data Stands (line : List ℕ) (at : ℕ) : Type 0 where
+  nothing : length line < at → numberAt line at ≡ N.Malformed → numbersFrom line at ≡ some [] → Stands line at
+  wrong : at ≤ length line → numberAt line at ≡ N.Malformed → numbersFrom line at ≡ none → Stands line at
+  number : (v : ℤ) (n : ℕ) → at < n → numberAt line at ≡ N.Value v n → numbersFrom line at ≡ front v (numbersFrom line n) → Stands line at
+
+pub stands : (line : List ℕ) (at : ℕ) → Stands line at
+unfolding numberAt numberAs
+stands line at = ⊎-elim past within (lt-or-ge (length line) at)
+  where
+    past : length line < at → Stands line at
+    past h = nothing h (sym (number-past line at h)) (past-end line at h)
+
+    by : (o : Option ℤ) (n : ℕ) → at ≤ length line → at < n → numberAt line at ≡ numberAs o n → numbersFrom line at ≡ firstThen o (numbersFrom line n) → Stands line at
+    by none n h l e f = wrong h e f
+    by (some v) n h l e f = number v n l e f
+
+    within : at ≤ length line → Stands line at
+    within h =
+        by (valueOf (until 32 (drop at line))) (at + length (until 32 (drop at line)) + 1) h (omega arith) (rw (le-leb at (length line) h)) (word-then-rest line at h)
+
+module _ (line : List ℕ) (at : ℕ) where
+  -- the next number of a line
+  pub next-number : {v : ℤ} {n : ℕ} → numberAt line at ≡ N.Value v n → (at < n) × (numbersFrom line at ≡ front v (numbersFrom line n))
+  next-number {v} {n} e = go (stands line at)
+    where
+      go : Stands line at → (at < n) × (numbersFrom line at ≡ front v (numbersFrom line n))
+      go (nothing h q f) = let z : _≡_ {A = ℕ} 0 1 = cc in absurd (omega arith)
+      go (wrong h q f) = let z : _≡_ {A = ℕ} 0 1 = cc in absurd (omega arith)
+      go (number u m h q f) = let z : m ≡ n = cc in (omega arith, cc)
+
+  pub wrong-number : at ≤ length line → numberAt line at ≡ N.Malformed → numbersFrom line at ≡ none
+  wrong-number h e = go (stands line at)
+    where
+      go : Stands line at → numbersFrom line at ≡ none
+      go (nothing l q f) = absurd (omega arith)
+      go (wrong l q f) = f
+      go (number u m l q f) = cc
+
+-- a signed number that was passed as an i32: its bits, read back
+abbrev pub back : ℤ → ℤ
+back v = toZ w32 (ofZ w32 v)
+
+pub through : {v : ℤ} → mag v < 2 ^ 31 → v ≡ back v
+through {v} h = sym (toZ-ofZ {w = w32} {z = v} (record { sfits = h }))

@@ -1,0 +1,125 @@
+-- Every text's study is a run of additions: of its lines' additions in order where it is accepted, of none where it is refused. So what holds of every run holds of it.
+-- Assumes nothing.
+use mathlib.Core.Path.{_≡_, refl, sym, ap, _∙_}
+use Prim.Native.Nat.{ℕ, _+_}
+use mathlib.Core.List.{List, [], _∷_, _++_}
+use mathlib.Core.Bool.{Bool, true, false, cond}
+use lib.ListN.{length}
+use lib.Dec.{leb}
+use Rattle.steps.specs.declared.Refusal.{Refusal}
+use Rattle.steps.specs.declared.Refusal.the-variants as R
+use Rattle.steps.specs.declared.Check.{Check}
+use Rattle.steps.specs.declared.Check.the-variants.{Accepted, Refused}
+use Rattle.study.specs.declared.Study.{Study}
+use Rattle.study.specs.Plan.{emptyStudy}
+use Rattle.study.specs.Add.{Limits}
+use Rattle.study.specs.Run.{Addition, step, runFrom, run}
+use Rattle.text.specs.Lines.{segmentOf, trainOf}
+use Rattle.text.specs.Contents.{Read, refused, counts, contentsOf}
+use Rattle.text.specs.Text.{Line, ended, torn, linesOf, kindsOf, segmentAdds, trainAdds, addLine, refusedAt, after, readLines, readBody, readFrom, readText}
+use Rattle.text.specs.Additions.{segmentAddition, trainAddition, lineAdditions, linesAdditions, bodyAdditions, additionsIn, additionsOf}
+use Rattle.text.specs.declared.Kind.{Kind}
+use Rattle.text.specs.declared.Kind.the-variants as K
+use Rattle.text.specs.declared.Reading.{Reading}
+use Rattle.text.specs.declared.lines.SegmentLine.{SegmentLine}
+use Rattle.text.specs.declared.lines.SegmentLine.the-variants as S
+use Rattle.text.specs.declared.lines.TrainLine.{TrainLine}
+use Rattle.text.specs.declared.lines.TrainLine.the-variants as T
+use Rattle.text.proofs.Rest.{never}
+
+-- an accepted line is its addition
+line-runs : (l : Limits) (p : Kind) (st : Study) (x : Line) (rest : List Addition) → addLine l p st x .check ≡ Accepted
+    → runFrom l (addLine l p st x .study) rest ≡ runFrom l st (lineAdditions p x ++ rest)
+unfolding addLine lineAdditions runFrom step
+line-runs l p st torn rest e = never e
+line-runs l K.Segment st (ended line) rest e = go (segmentOf line) e
+  where
+    go : (r : SegmentLine) → segmentAdds l st r .check ≡ Accepted → runFrom l (segmentAdds l st r .study) rest ≡ runFrom l st (segmentAddition r ++ rest)
+    go S.Malformed f = never f
+    go (S.Fields s) f = refl
+line-runs l K.Train st (ended line) rest e = go (trainOf line) e
+  where
+    go : (r : TrainLine) → trainAdds l st r .check ≡ Accepted → runFrom l (trainAdds l st r .study) rest ≡ runFrom l st (trainAddition r ++ rest)
+    go T.Malformed f = never f
+    go (T.Fields t) f = refl
+
+-- what comes after an accepted line
+after-accepted : (c : Check) (k : ℕ) (rest : Reading) → after c k rest .check ≡ Accepted → (c ≡ Accepted) × (after c k rest ≡ rest)
+after-accepted Accepted k rest e = (refl, refl)
+after-accepted (Refused r) k rest e = never e
+
+lines-run : (l : Limits) (st : Study) (k : ℕ) (ps : List Kind) (xs : List Line) → readLines l st k ps xs .check ≡ Accepted
+    → readLines l st k ps xs .study ≡ runFrom l st (linesAdditions ps xs)
+unfolding readLines linesAdditions runFrom
+lines-run l st k [] [] e = refl
+lines-run l st k [] (x ∷ xs) e = never e
+lines-run l st k (p ∷ ps) [] e = never e
+lines-run l st k (p ∷ ps) (x ∷ xs) e =
+    let a = addLine l p st x in
+    let w = after-accepted (a .check) k (readLines l (a .study) (k + 1) ps xs) e in
+    ap (λ (r : Reading). r .study) (w .1)
+    ∙ lines-run l (a .study) (k + 1) ps xs (sym (ap (λ (r : Reading). r .check) (w .1)) ∙ e)
+    ∙ line-runs l p st x (linesAdditions ps xs) (w .0)
+
+body-runs : (l : Limits) (r : Read) (xs : List Line) → readBody l r xs .check ≡ Accepted → readBody l r xs .study ≡ run l (bodyAdditions r xs)
+unfolding run
+body-runs l (refused r) xs e = never e
+body-runs l (counts cs) xs e = lines-run l emptyStudy 2 (kindsOf cs) xs e
+
+from-runs : (l : Limits) (xs : List Line) → readFrom l xs .check ≡ Accepted → readFrom l xs .study ≡ run l (additionsIn l xs)
+from-runs l [] e = never e
+from-runs l (torn ∷ xs) e = never e
+from-runs l (ended line ∷ xs) e = body-runs l (contentsOf l line) xs e
+
+-- an accepted text's study is that of its lines' additions, in order
+pub accepted-text-is-run : (l : Limits) (text : List ℕ) → readText l text .check ≡ Accepted → readText l text .study ≡ run l (additionsOf l text)
+unfolding readText additionsOf
+accepted-text-is-run l text e = go (leb (length text) 16384) e
+  where
+    go : (t : Bool) → cond t (readFrom l (linesOf text)) (refusedAt R.Form 0) .check ≡ Accepted
+        → cond t (readFrom l (linesOf text)) (refusedAt R.Form 0) .study ≡ run l (additionsIn l (linesOf text))
+    go true f = from-runs l (linesOf text) f
+    go false f = never f
+
+-- a refused text gives the empty study
+after-refused : (c : Check) (k : ℕ) (rest : Reading) (f : Refusal) → (rest .check ≡ Refused f → rest .study ≡ emptyStudy)
+    → after c k rest .check ≡ Refused f → after c k rest .study ≡ emptyStudy
+after-refused Accepted k rest f h e = h e
+after-refused (Refused r) k rest f h e = refl
+
+lines-refused : (l : Limits) (st : Study) (k : ℕ) (ps : List Kind) (xs : List Line) (f : Refusal) → readLines l st k ps xs .check ≡ Refused f
+    → readLines l st k ps xs .study ≡ emptyStudy
+unfolding readLines
+lines-refused l st k [] [] f e = never (sym e)
+lines-refused l st k [] (x ∷ xs) f e = refl
+lines-refused l st k (p ∷ ps) [] f e = refl
+lines-refused l st k (p ∷ ps) (x ∷ xs) f e =
+    let a = addLine l p st x in
+    after-refused (a .check) k (readLines l (a .study) (k + 1) ps xs) f (lines-refused l (a .study) (k + 1) ps xs f) e
+
+body-refused : (l : Limits) (r : Read) (xs : List Line) (f : Refusal) → readBody l r xs .check ≡ Refused f → readBody l r xs .study ≡ emptyStudy
+body-refused l (refused r) xs f e = refl
+body-refused l (counts cs) xs f e = lines-refused l emptyStudy 2 (kindsOf cs) xs f e
+
+from-refused : (l : Limits) (xs : List Line) (f : Refusal) → readFrom l xs .check ≡ Refused f → readFrom l xs .study ≡ emptyStudy
+from-refused l [] f e = refl
+from-refused l (torn ∷ xs) f e = refl
+from-refused l (ended line ∷ xs) f e = body-refused l (contentsOf l line) xs f e
+
+pub refused-text-is-empty : (l : Limits) (text : List ℕ) (f : Refusal) → readText l text .check ≡ Refused f → readText l text .study ≡ emptyStudy
+unfolding readText
+refused-text-is-empty l text f e = go (leb (length text) 16384) e
+  where
+    go : (t : Bool) → cond t (readFrom l (linesOf text)) (refusedAt R.Form 0) .check ≡ Refused f
+        → cond t (readFrom l (linesOf text)) (refusedAt R.Form 0) .study ≡ emptyStudy
+    go true q = from-refused l (linesOf text) f q
+    go false q = refl
+
+-- whatever the text, its study is a run
+pub text-is-run : (l : Limits) (text : List ℕ) → (additions : List Addition) × (readText l text .study ≡ run l additions)
+unfolding run runFrom
+text-is-run l text = go (readText l text .check) refl
+  where
+    go : (c : Check) → readText l text .check ≡ c → (additions : List Addition) × (readText l text .study ≡ run l additions)
+    go Accepted e = (additionsOf l text, accepted-text-is-run l text e)
+    go (Refused f) e = ([], refused-text-is-empty l text f e)

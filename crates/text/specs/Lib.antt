@@ -1,0 +1,7 @@
+pub mod Bytes
+pub mod Numbers
+pub mod Lines
+pub mod Contents
+pub mod Text
+pub mod Additions
+pub mod Parts

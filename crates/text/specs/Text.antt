@@ -1,0 +1,106 @@
+-- The reading of a text (01, "The text"): its lines, the kinds of line that the contents announce, and what comes out.
+-- Assumes nothing.
+use Prim.Native.Nat.{ℕ, zero, suc, _+_}
+use mathlib.Core.List.{List, [], _∷_}
+use mathlib.Core.Bool.{cond}
+use lib.ListN.{length}
+use lib.Dec.{leb}
+use Rattle.steps.specs.declared.Refusal.{Refusal}
+use Rattle.steps.specs.declared.Refusal.the-variants.{Form, Contents}
+use Rattle.steps.specs.declared.Check.{Check}
+use Rattle.steps.specs.declared.Check.the-variants.{Accepted, Refused}
+use Rattle.study.specs.declared.Study.{Study}
+use Rattle.study.specs.declared.Added.{Added}
+use Rattle.study.specs.Plan.{emptyStudy}
+use Rattle.study.specs.Add.{Limits, addSegment, addTrain}
+use Rattle.text.specs.Bytes.{split}
+use Rattle.text.specs.Lines.{segmentOf, trainOf}
+use Rattle.text.specs.Contents.{Read, refused, counts, contentsOf}
+use Rattle.text.specs.declared.lines.SegmentLine.{SegmentLine}
+use Rattle.text.specs.declared.lines.SegmentLine.the-variants as S
+use Rattle.text.specs.declared.lines.TrainLine.{TrainLine}
+use Rattle.text.specs.declared.lines.TrainLine.the-variants as T
+use Rattle.text.specs.declared.Kind.{Kind}
+use Rattle.text.specs.declared.Kind.the-variants.{Segment, Train}
+use Rattle.text.specs.declared.Reading.{Reading}
+
+-- "a line feed after each line": a line that one ends, without it; or bytes at the end of the text that none ends
+pub data Line : Type 0 where
+  ended : List ℕ → Line
+  torn : Line
+
+-- what stands after the last line feed is no line where it is empty
+abbrev pub lastLine : List ℕ → List Line
+lastLine [] = []
+lastLine (b ∷ bs) = torn ∷ []
+
+unfoldable pub linesIn : List (List ℕ) → List Line
+linesIn [] = []
+linesIn (p ∷ []) = lastLine p
+linesIn (p ∷ q ∷ qs) = ended p ∷ linesIn (q ∷ qs)
+
+unfoldable pub linesOf : List ℕ → List Line
+linesOf text = linesIn (split 10 text)
+
+-- "Then each segment's line, its train lines after it": the kinds of line to come, from the segments' entry counts
+unfoldable pub trains : ℕ → List Kind → List Kind
+trains zero ks = ks
+trains (suc n) ks = Train ∷ trains n ks
+
+unfoldable pub kindsOf : List ℕ → List Kind
+unfolding trains
+kindsOf [] = []
+kindsOf (c ∷ cs) = Segment ∷ trains c (kindsOf cs)
+
+-- what a line adds to a study. "Within a line 12 precedes all else": all its numbers are read before the addition judges any
+abbrev pub turnedBack : Study → Refusal → Added
+turnedBack st r = record { check = Refused r; study = st }
+
+abbrev pub segmentAdds : Limits → Study → SegmentLine → Added
+segmentAdds l st S.Malformed = turnedBack st Form
+segmentAdds l st (S.Fields s) = addSegment l st s
+
+abbrev pub trainAdds : Limits → Study → TrainLine → Added
+trainAdds l st T.Malformed = turnedBack st Form
+trainAdds l st (T.Fields t) = addTrain l st t
+
+-- "bytes at the end without a line feed are a line of wrong form", whatever they are
+unfoldable pub addLine : Limits → Kind → Study → Line → Added
+addLine l kind st torn = turnedBack st Form
+addLine l Segment st (ended line) = segmentAdds l st (segmentOf line)
+addLine l Train st (ended line) = trainAdds l st (trainOf line)
+
+-- the study of all the lines' additions
+abbrev pub acceptedWith : Study → Reading
+acceptedWith st = record { check = Accepted; line = 0; study = st }
+
+-- "a refused text gives the empty study"
+abbrev pub refusedAt : Refusal → ℕ → Reading
+refusedAt r line = record { check = Refused r; line = line; study = emptyStudy }
+
+-- "The first line at fault, counted from 1, ends the reading": what follows counts only after an accepted line
+abbrev pub after : Check → ℕ → Reading → Reading
+after Accepted line rest = rest
+after (Refused r) line rest = refusedAt r line
+
+-- the lines from number k on, with the study so far: "a missing line or an extra one is 13, at that line", with any bytes in it
+unfoldable pub readLines : Limits → Study → ℕ → List Kind → List Line → Reading
+readLines l st k [] [] = acceptedWith st
+readLines l st k [] (x ∷ xs) = refusedAt Contents k
+readLines l st k (p ∷ ps) [] = refusedAt Contents k
+readLines l st k (p ∷ ps) (x ∷ xs) = after (addLine l p st x .check) k (readLines l (addLine l p st x .study) (k + 1) ps xs)
+
+-- "Reading begins with an empty study"; the contents are line 1
+abbrev pub readBody : Limits → Read → List Line → Reading
+readBody l (refused r) xs = refusedAt r 1
+readBody l (counts cs) xs = readLines l emptyStudy 2 (kindsOf cs) xs
+
+-- "The empty text is 13 at line 1"
+abbrev pub readFrom : Limits → List Line → Reading
+readFrom l [] = refusedAt Contents 1
+readFrom l (torn ∷ xs) = refusedAt Form 1
+readFrom l (ended line ∷ xs) = readBody l (contentsOf l line) xs
+
+-- "At most 16,384 bytes; more is 12 at line 0". 20 to 24 never come from a text (`text-refusal-is-own` of proofs/Refusals.antt)
+unfoldable pub readText : Limits → List ℕ → Reading
+readText l text = cond (leb (length text) 16384) (readFrom l (linesOf text)) (refusedAt Form 0)
