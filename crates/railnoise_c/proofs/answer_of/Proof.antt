@@ -1,0 +1,32 @@
+-- `railnoise_c::answer_of` meets its contract.
+-- Assumes nothing.
+use Rattle.railnoise_c.specs.Exported.{exported}
+use borrow.Author.Needs.{needs}
+use Rattle.railnoise_c.proofs.answer_of.Statement.{statement}
+use Rattle.railnoise_c.proofs.answer_of.Tie as tie
+
+check-number-requires : tie.Need-check-number-requires
+check-number-requires c κs = search needs
+
+line-of-requires : tie.Need-line-of-requires
+line-of-requires c κs = search needs
+
+period-of-requires : tie.Need-period-of-requires
+period-of-requires c κs = search needs
+
+period-of-requires-2 : tie.Need-period-of-requires-2
+period-of-requires-2 c κs = search needs
+
+returns : tie.Need-returns
+unfolding exported
+returns c = rw (c .before .before .before .check-number .ensures, c .before .before .line-of .ensures, c .before .period-of .ensures, c .period-of2 .ensures)
+
+pub answer-of-spec : {M : Type 1} → statement M
+answer-of-spec =
+    tie.close
+    (tie.spec
+    check-number-requires
+    line-of-requires
+    period-of-requires
+    period-of-requires-2
+    returns)

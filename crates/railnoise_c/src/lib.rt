@@ -1,0 +1,103 @@
+// The one function for C: a study text and working cells in, both periods' results out.
+ghost use mathlib.Core.Path.{_≡_};
+ghost use Rattle.study.specs.Request.{quiet as Request·quiet};
+ghost use Rattle.railnoise_c.specs.Exported.{exportedPeriod, exportedLine, exported, Called};
+use decibel::Level;
+use steps::Check;
+use study::request::Answer;
+use study::request::PeriodResult;
+
+// `railnoise_period`: the level in tenths, 0 when silent.
+#[repr(C)]
+pub struct RailnoisePeriod {
+    pub silent: bool,
+    pub level: i32,
+    pub close: u32,
+    pub met: bool,
+}
+
+// `railnoise_answer`: refusal 0 when answered; line 0 where none is at fault.
+#[repr(C)]
+pub struct RailnoiseAnswer {
+    pub refusal: u32,
+    pub line: u32,
+    pub day: RailnoisePeriod,
+    pub night: RailnoisePeriod,
+}
+
+fn period_of(result: PeriodResult) -> RailnoisePeriod
+    ensures { λ r. ⌜ r ≡ exportedPeriod result ⌝ }
+{
+    let level = result.level;
+    match level {
+        Level::Silent => RailnoisePeriod {
+            silent: true,
+            level: 0,
+            close: result.close,
+            met: result.met,
+        },
+        Level::Figure(tenths) => RailnoisePeriod {
+            silent: false,
+            level: tenths,
+            close: result.close,
+            met: result.met,
+        },
+    }
+}
+
+fn line_of(line: usize) -> u32
+    ensures { λ r. ⌜ r ≡ exportedLine line ⌝ }
+{
+    if line < 4294967295 {
+        line as u32
+    } else {
+        4294967295
+    }
+}
+
+fn answer_of(line: usize, answer: Answer) -> RailnoiseAnswer
+    ensures { λ r. ⌜ r ≡ exported line answer ⌝ }
+{
+    let check = answer.check;
+    let refusal = steps::check_number(check);
+    let at = line_of(line);
+    RailnoiseAnswer {
+        refusal: refusal,
+        line: at,
+        day: period_of(answer.day),
+        night: period_of(answer.night),
+    }
+}
+
+fn quiet() -> PeriodResult
+    ensures { λ r. ⌜ r ≡ Request·quiet ⌝ }
+{
+    PeriodResult {
+        level: Level::Silent,
+        close: 0,
+        met: false,
+    }
+}
+
+// Reads the text and answers the request for levels over its study. A refusal of the text comes before 24, and leaves the cells as they were.
+#[no_mangle]
+pub extern "C" fn railnoise_levels(text: &[u8], cells: &mut [i32]) -> RailnoiseAnswer
+    ensures { λ r. ⌜ Called (now (text .entry)) (now (cells .entry)) (now (cells .exit)) r ⌝ }
+{
+    let reading = text::read_text(text);
+    let check = reading.check;
+    match check {
+        Check::Accepted => {
+            let answer = study::request::levels(reading.study, cells);
+            answer_of(0, answer)
+        }
+        Check::Refused(refusal) => {
+            let answer = Answer {
+                check: Check::Refused(refusal),
+                day: quiet(),
+                night: quiet(),
+            };
+            answer_of(reading.line, answer)
+        }
+    }
+}

@@ -1,0 +1,5 @@
+pub mod Places
+pub mod Signs
+pub mod Decimal
+pub mod Lengths
+pub mod Reports
