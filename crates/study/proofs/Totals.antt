@@ -1,20 +1,18 @@
 -- The levels that a period's cells hold are the figures of its entries, and each entry is heard in its cell.
 -- Assumes nothing.
-use mathlib.Core.Path.{_≡_, refl, sym, subst}
-use mathlib.Core.Bool.{Bool, true, false}
+use mathlib.Core.Path.{_≡_, refl}
 use mathlib.Core.List.{List, [], _∷_, map}
 use Prim.Native.Nat.{ℕ, suc, _≤_}
 use native.Mathlib.Omega.{arith}
-use lib.Dec.{T}
 use lib.IntN.{ℤ, pos, negsuc}
-use lib.Signed.{leZ, ltZ, _≤ℤ_, clashℤ, ltZ-yes}
+use lib.Signed.{leZ, _≤ℤ_}
 use lib.ListN.{length}
 use Rattle.decibel.proofs.Ints.{ints}
 use Rattle.decibel.specs.declared.Level.{Level}
 use Rattle.decibel.specs.declared.Level.the-variants.{Silent, Figure}
 use Rattle.energy.specs.Total.{heard}
 use Rattle.energy.proofs.Levels.{Kept, none, next}
-use Rattle.energy.proofs.Order.{le-true}
+use Rattle.energy.proofs.Order.{le-true, lt-false}
 use Rattle.steps.specs.declared.Period.{Period}
 use Rattle.steps.specs.Entry.{emissionOf, propagationBy, levelBy, raised}
 use Rattle.steps.specs.Parts.{Signed}
@@ -27,13 +25,6 @@ use Rattle.steps.proofs.Loud.{levels-lie}
 -- a level from -200 to 200 dB, or silent
 abbrev pub Lies : Level → Type 0
 Lies l = (r : ℤ) → l ≡ Figure r → Signed 2000 2000 r
-
-not-less : (a b : ℤ) → b ≤ℤ a → ltZ a b ≡ false
-not-less a b h = go (ltZ a b) refl
-  where
-    go : (c : Bool) → ltZ a b ≡ c → c ≡ false
-    go true e = clashℤ (ltZ-yes (subst T (sym e) tt)) h
-    go false e = refl
 
 module _ {r : ℤ} (lies : Signed 2000 2000 r) where
   at-least : negsuc 1999 ≤ℤ r
@@ -56,7 +47,7 @@ few-more (Figure r) ls h = omega arith
 heard-more : (l : Level) (ls : List Level) → Lies l → heard (map cellOf ls) ≡ figures ls → heard (map cellOf (l ∷ ls)) ≡ figures (l ∷ ls)
 unfolding heard figures cellOf
 heard-more Silent ls lies e = e
-heard-more (Figure r) ls lies e = rw (not-less r (negsuc 1999) (at-least (lies r refl)), not-less (pos 2000) r (at-most (lies r refl)), e)
+heard-more (Figure r) ls lies e = rw (lt-false r (negsuc 1999) (at-least (lies r refl)), lt-false (pos 2000) r (at-most (lies r refl)), e)
 
 module _ (p : Period) (plan : Plan) (m : Marks) where
   entry-lies : (e : Entry) → Lies (levelAt p plan m e)

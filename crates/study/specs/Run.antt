@@ -83,6 +83,7 @@ pub record Sized (l : Limits) (st : Study) : Type 0 where
 
 -- ---- the additions of a list that are not refused
 
+-- what a plan answers to an addition
 unfoldable pub checkOf : Limits → Plan → Addition → Check
 checkOf l p (segment s) = segmentAnswer l (length (p .segments)) s
 checkOf l p (train t) = trainAnswer l (length (p .segments)) (length (p .entries)) t

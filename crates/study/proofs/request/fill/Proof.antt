@@ -4,10 +4,10 @@ use native.Mathlib.Omega.{arith}
 use borrow.Author.Needs.{needs}
 use Prim.Native.Nat.{_≤_, _+_, _-_}
 use mathlib.Core.Path.{_≡_, refl, sym}
-use lib.ListN.{length, length-set, getD}
+use lib.ListN.{length, length-set}
 use lib.Seq.{paste, paste-zero}
 use Rattle.decibel.proofs.Words.{back}
-use Rattle.study.specs.Plan.{planOf, noEntry}
+use Rattle.study.specs.Plan.{planOf}
 use Rattle.study.proofs.Sizes.{plan-total, plan-entry}
 use Rattle.study.proofs.Cells.{cellsOf, cell-written}
 use Rattle.study.proofs.request.fill.Statement.{statement}
@@ -46,8 +46,7 @@ cell-of-requires : tie.Need-cell-of-requires Inv-loop μ-loop
 cell-of-requires c κs =
     let start = c .before .before .before .before .before .before .before in
     let r = c .tenths-at in
-    let e = getD (start .args .t2 .entries) (c .before .before .before .before .loop .i) noEntry in
-    (rw (back (r .result) (r .ok), r .ensures) (start .pre .1 .0 .small (e .segment)), c .before .emission-of .ensures .small)
+    (rw (back (r .result) (r .ok), r .ensures) (start .pre .1 .0 .small _), c .before .emission-of .ensures .small)
 
 add-t14 : tie.Need-add-t14 Inv-loop μ-loop
 add-t14 c = omega (arith, c .before .before .before .before .before .before .before .before .good)

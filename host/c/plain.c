@@ -1,0 +1,261 @@
+/* The anchor for speed: what an engineer would write in an afternoon, with strtol and libm.
+ * Doubles throughout and no care for ties, so it misreads some studies; the differential program
+ * counts how many. */
+#include "plain.h"
+
+#include <ctype.h>
+#include <math.h>
+#include <stdlib.h>
+#include <string.h>
+
+#define MOST_SEGMENTS 24
+#define MOST_ENTRIES 96
+#define PI 3.141592654
+
+enum { D, WINDOW, MEAN, SOFT, VIEW, TWICE, SCREEN, PLACE, TOP, CHART, TRACK, BALLAST, FACADE, OPPOSITE, FIELDS };
+
+typedef struct {
+    long n[FIELDS];
+    int tenths; /* of all steps that belong to the segment */
+    bool close;
+} segment;
+
+typedef struct {
+    int segment;
+    long row, speed, vehicles, trains[2];
+} entry;
+
+typedef struct {
+    int segment_count, entry_count;
+    segment segments[MOST_SEGMENTS];
+    entry entries[MOST_ENTRIES];
+} study;
+
+static const int vehicle_table[34] = {
+    148, 148, 167, 108, 108, 129, 71,  60,  60,  113, 84,  84,  70,  70,  158, 149, 120,
+    150, 80,  75,  148, 166, 148, 166, 180, 166, 166, 166, 166, 148, 148, 148, 148, 148,
+};
+
+static bool within(long value, long low, long high)
+{
+    return low <= value && value <= high;
+}
+
+static int nearest_tenth(double decibels)
+{
+    return (int)floor(decibels * 10.0 + 0.5);
+}
+
+/* The louder neighbour when the value is close to a tie. */
+static int close_tenth(double decibels, bool *close)
+{
+    double tenths = decibels * 10.0;
+    *close = fabs(tenths - floor(tenths) - 0.5) < 0.015;
+    return *close ? (int)ceil(tenths) : nearest_tenth(decibels);
+}
+
+/* Reads one line's numbers; the cursor moves past its line feed. Gives their count, or -1 when out
+ * of form; numbers past the most are read and counted, not kept. */
+static int read_line(const char **cursor, long *numbers, int most)
+{
+    const char *at = *cursor;
+    int count = 0;
+    for (;;) {
+        const char *digits = at + (*at == '-');
+        if (!isdigit((unsigned char)digits[0]))
+            return -1;
+        if (digits[0] == '0' && (digits > at || isdigit((unsigned char)digits[1])))
+            return -1;
+        char *end;
+        long number = strtol(at, &end, 10);
+        if (end - digits > 5)
+            return -1;
+        if (count < most)
+            numbers[count] = number;
+        count++;
+        at = end + 1;
+        if (*end == '\n')
+            break;
+        if (*end != ' ')
+            return -1;
+    }
+    *cursor = at;
+    return count;
+}
+
+static double path_difference(const long *n)
+{
+    double to_top = sqrt((double)(n[PLACE] * n[PLACE] + n[TOP] * n[TOP]));
+    double across = (double)(n[D] - n[PLACE]), up = (double)(n[WINDOW] - n[TOP]);
+    double direct = sqrt((double)(n[D] * n[D] + n[WINDOW] * n[WINDOW]));
+    double difference = (to_top + sqrt(across * across + up * up) - direct) / 100.0;
+    return difference > 0.0 ? difference : 0.0;
+}
+
+static bool in_shadow(const long *n)
+{
+    return n[TOP] * n[D] >= n[WINDOW] * n[PLACE];
+}
+
+static uint32_t segment_refusal(const long *n)
+{
+    if (!within(n[D], 1000, 30000))
+        return 1;
+    if (!within(n[WINDOW], -5000, 5000) || !within(n[MEAN], 0, 5000))
+        return 2;
+    if (!within(n[SOFT], 0, 10))
+        return 3;
+    if (!within(n[VIEW], 5, 180) || !within(n[TWICE], n[VIEW], 180))
+        return 4;
+    if (!within(n[SCREEN], 0, 2) || !within(n[CHART], 0, n[SCREEN] == 2 ? 100 : 0))
+        return 5;
+    if (n[SCREEN] == 0 && (n[PLACE] != 0 || n[TOP] != 0))
+        return 5;
+    if (n[SCREEN] != 0 && (!within(n[PLACE], 100, n[D] - 100) || !within(n[TOP], -2000, 5000) || n[BALLAST] != 0))
+        return 5;
+    if (n[SCREEN] != 0 && in_shadow(n) && path_difference(n) > 2.5)
+        return 6;
+    if (!within(n[TRACK], 0, 150) || !within(n[BALLAST], -30, 0) || !within(n[FACADE], 0, 1) ||
+        !within(n[OPPOSITE], 0, n[VIEW]))
+        return 7;
+    return 0;
+}
+
+static uint32_t entry_refusal(const long *n)
+{
+    if (!within(n[0], 1, 34))
+        return 8;
+    if (!within(n[1], 20, 300))
+        return 9;
+    if (!within(n[2], 1, 60))
+        return 10;
+    return within(n[3], 0, 2000) && within(n[4], 0, 2000) ? 0 : 11;
+}
+
+static double screen_step(const long *n)
+{
+    double difference = path_difference(n);
+    if (in_shadow(n))
+        return -7.75 * log10(5.2 + 203.0 * difference);
+    return difference <= 0.4 ? 0.88 + 2.14 * log10(difference + 0.001) : 0.0;
+}
+
+static double ground_step(const long *n)
+{
+    if (n[D] <= 2500)
+        return 0.0;
+    double height = n[MEAN] < 100 ? 100.0 : n[MEAN] > 600 ? 600.0 : (double)n[MEAN];
+    return -0.0006 * (double)n[SOFT] * (600.0 - height) * log10((double)n[D] / 2500.0);
+}
+
+static void work_out_segment(segment *s)
+{
+    const long *n = s->n;
+    double slant = sqrt((double)(n[D] * n[D] + n[WINDOW] * n[WINDOW])) / 100.0;
+    double view = (double)n[VIEW] * PI / 180.0, twice = (double)n[TWICE] * PI / 180.0;
+    s->tenths = nearest_tenth(-10.0 * log10(slant / 25.0)) + nearest_tenth(0.2 - 0.008 * slant);
+    s->tenths += nearest_tenth(10.0 * log10(view - sin(view) * cos(twice)) - 5.0);
+    s->tenths += nearest_tenth(1.5 * (double)n[OPPOSITE] / (double)n[VIEW]);
+    s->close = false;
+    s->tenths += n[SCREEN] != 0 ? nearest_tenth(screen_step(n)) : close_tenth(ground_step(n), &s->close);
+    s->tenths += (int)(n[CHART] + n[TRACK] + n[BALLAST]) + (n[FACADE] ? 25 : 0);
+}
+
+/* The text with a zero byte after it; 0 when the study is read, else the refusal with its line. */
+static uint32_t read_study(const char *text, const char *end, study *s, uint32_t *line)
+{
+    long contents[MOST_SEGMENTS + 1], n[FIELDS], total = 0;
+    *line = 1;
+    if (text == end)
+        return 13;
+    int count = read_line(&text, contents, MOST_SEGMENTS + 1);
+    if (count < 1 || count != contents[0] + 1)
+        return 12;
+    if (!within(contents[0], 1, MOST_SEGMENTS))
+        return 13;
+    for (int i = 1; i < count; i++) {
+        if (!within(contents[i], 0, MOST_ENTRIES))
+            return 13;
+        total += contents[i];
+    }
+    if (!within(total, 1, MOST_ENTRIES))
+        return 13;
+    s->segment_count = (int)contents[0];
+    s->entry_count = 0;
+    for (int i = 0; i < s->segment_count; i++) {
+        ++*line;
+        if (text == end)
+            return 13;
+        if (read_line(&text, s->segments[i].n, FIELDS) != FIELDS)
+            return 12;
+        uint32_t refusal = segment_refusal(s->segments[i].n);
+        if (refusal)
+            return refusal;
+        work_out_segment(&s->segments[i]);
+        for (long k = 0; k < contents[i + 1]; k++) {
+            ++*line;
+            if (text == end)
+                return 13;
+            if (read_line(&text, n, 5) != 5)
+                return 12;
+            if ((refusal = entry_refusal(n)))
+                return refusal;
+            s->entries[s->entry_count++] = (entry){ i, n[0], n[1], n[2], { n[3], n[4] } };
+        }
+    }
+    ++*line;
+    return text == end ? 0 : 13;
+}
+
+static railnoise_period period_result(const study *s, int period, int32_t *cells)
+{
+    railnoise_period result = { true, 0, 0, false };
+    bool heard[MOST_SEGMENTS] = { false }, close;
+    double sum = 0.0;
+    for (int i = 0; i < s->entry_count; i++) {
+        const entry *e = &s->entries[i];
+        if (e->trains[period] == 0) {
+            cells[i] = RAILNOISE_SILENT_CELL;
+            continue;
+        }
+        int level = s->segments[e->segment].tenths + vehicle_table[e->row - 1];
+        level += nearest_tenth(31.2 + 20.0 * log10((double)e->speed));
+        level += nearest_tenth(10.0 * log10((double)e->vehicles));
+        level += nearest_tenth(10.0 * log10((double)e->trains[period])) - (period == 0 ? 481 : 433);
+        cells[i] = level;
+        sum += pow(10.0, level / 100.0);
+        result.silent = false;
+        if (!heard[e->segment])
+            result.close += s->segments[e->segment].close;
+        heard[e->segment] = true;
+    }
+    if (result.silent)
+        return result;
+    result.level = close_tenth(10.0 * log10(sum), &close);
+    result.close += close;
+    result.met = floor(result.level / 10.0 + 0.5) >= (period == 0 ? 68.0 : 63.0);
+    return result;
+}
+
+railnoise_answer plain_levels(const uint8_t *text, size_t text_length, int32_t *cells, size_t cell_count)
+{
+    railnoise_answer answer = { 12, 0, { true, 0, 0, false }, { true, 0, 0, false } };
+    char copy[RAILNOISE_TEXT_LIMIT + 1];
+    study s;
+    if (text_length > RAILNOISE_TEXT_LIMIT)
+        return answer;
+    if (text_length > 0)
+        memcpy(copy, text, text_length);
+    copy[text_length] = '\0';
+    answer.refusal = read_study(copy, copy + text_length, &s, &answer.line);
+    if (answer.refusal)
+        return answer;
+    answer.line = 0;
+    if (cell_count < 2 * (size_t)s.entry_count) {
+        answer.refusal = 24;
+        return answer;
+    }
+    answer.day = period_result(&s, 0, cells);
+    answer.night = period_result(&s, 1, cells + s.entry_count);
+    return answer;
+}

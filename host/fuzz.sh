@@ -1,0 +1,43 @@
+#!/bin/sh
+# Coverage-guided fuzzing of railnoise_levels under AddressSanitizer, with libFuzzer.
+#   host/fuzz.sh SECONDS [ARCHIVE]
+# ARCHIVE: the static library to test, by default the product's as rt staticlib writes it. Coverage comes from the plain program
+# and from the second implementation, both instrumented here, and from the archive if it was built
+# with -fsanitize-coverage itself. Each answer is held against the second implementation.
+# New texts are kept in host/build/corpus; a failing one is written to host/build/fuzz-*.
+set -eu
+here=$(cd "$(dirname "$0")" && pwd)
+seconds=$1
+archive=${2:-$here/../target/staticlib/librailnoise_c.a}
+[ -r "$archive" ] || { echo "$archive is missing: run rt staticlib railnoise_c" >&2; exit 2; }
+build=$here/build
+mkdir -p "$build/corpus"
+
+if ! command -v clang >/dev/null; then
+    apt-get install -y --no-install-recommends clang libclang-rt-14-dev || apt-get install -y clang
+fi
+
+# The second implementation, with counters that libFuzzer reads. In a directory of its own, so that
+# the other programs keep their uninstrumented build.
+coverage='-Cpasses=sancov-module -Cllvm-args=-sanitizer-coverage-level=3
+    -Cllvm-args=-sanitizer-coverage-inline-8bit-counters -Cllvm-args=-sanitizer-coverage-pc-table'
+(cd "$here/second" && RUSTFLAGS=$(echo $coverage) cargo build --release --offline -j1 --quiet --lib \
+    --target-dir "$build/instrumented" --target "$(rustc -vV | sed -n 's/^host: //p')")
+second=$(ls "$build"/instrumented/*/release/libsecond.a)
+
+clang -std=c11 -O1 -g -Wall -Wextra -Werror -fsanitize=fuzzer,address -I"$here/../include" \
+    "$here/c/fuzz_target.c" "$here/c/plain.c" "$archive" "$second" ${LINK_FLAGS:-} -lm -lpthread -ldl \
+    -o "$build/fuzz"
+
+(cd "$here/second" && cargo build --release --offline -j1 --quiet --features mock)
+"$here/second/target/release/differential" --corpus "$build/seeds" 7 500
+
+"$build/fuzz" -max_total_time="$seconds" -max_len=16400 -dict="$here/c/fuzz.dict" -artifact_prefix="$build/fuzz-" \
+    -print_final_stats=1 "$build/corpus" "$build/seeds" 2>"$build/fuzz.log" || {
+    tail -40 "$build/fuzz.log"
+    echo "fuzz: failed, see $build/fuzz.log"
+    exit 1
+}
+runs=$(sed -n 's/^stat::number_of_executed_units: *//p' "$build/fuzz.log")
+edges=$(sed -n 's/.*cov: \([0-9]*\) .*/\1/p' "$build/fuzz.log" | tail -1)
+echo "fuzz: $runs texts in $seconds s, $edges edges covered, no failure"
