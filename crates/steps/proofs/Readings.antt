@@ -1,4 +1,4 @@
--- The starred readings of 01 ("Readings around the edges") that concern the steps and the verdict, on the meaning of each: one list, one claim.
+-- The starred readings of 01 that concern the steps hold.
 -- Assumes nothing.
 use mathlib.Core.Path.{_≡_, refl, _∙_, ap, ap₂}
 use mathlib.Core.Bool.{Bool, true, false}
@@ -11,7 +11,7 @@ use lib.IntN.{ℤ, pos, negsuc, negℤ, subℕ, _+ℤ_, _-ℤ_}
 use Rattle.decibel.specs.Ints.{up, dn}
 use Rattle.decibel.specs.Greatest.{clamp}
 use Rattle.decibel.specs.Log.{AtLeast, AtMost, fence}
-use Rattle.decibel.specs.Round.{micro, tie, nearest, byMark, MarkAllowed, wholeDecibels, meets}
+use Rattle.decibel.specs.Round.{micro, tie, nearest, byMark, MarkAllowed}
 use Rattle.decibel.specs.Table.{reaches}
 use Rattle.decibel.proofs.Ints.{add-is, neg-is, from-parts, ints}
 use Rattle.decibel.proofs.Powers.{mul-pow}
@@ -27,32 +27,8 @@ use Rattle.steps.specs.Geometry.{squared, slant, slantSquare}
 use Rattle.steps.specs.Rules.{within, unscreened}
 use Rattle.steps.specs.Step.{rootUp, distanceFence, airFence, groundFactor, grounded, groundFence, pathFence, oppositeFence, countedSpeed, speedFence, vehiclesFence, trainsIn, hoursTenths, trainsFence}
 use Rattle.steps.specs.Ground.{GroundMarkBy, GroundMark}
+use Rattle.steps.specs.Readings.{StepReadings}
 use Rattle.steps.proofs.Air.{root-up-square}
-
-pub record Readings : Type 0 where
-  -- speed, in km/h
-  pub speed-100 : (t : Train) → t .speed ≡ pos 100 → nearest (speedFence t) ≡ pos 712
-  pub speed-150 : (t : Train) → t .speed ≡ pos 150 → nearest (speedFence t) ≡ pos 747
-  -- vehicles
-  pub vehicles-2 : (t : Train) → t .vehicles ≡ pos 2 → nearest (vehiclesFence t) ≡ pos 30
-  pub vehicles-10 : (t : Train) → t .vehicles ≡ pos 10 → nearest (vehiclesFence t) ≡ pos 100
-  -- distance at 25 m
-  pub distance-2500 : (s : Segment) → s .distance ≡ pos 2500 → s .height ≡ pos 0 → nearest (distanceFence s) ≡ pos 0
-  -- air: 18.75 m is a tie
-  pub air-1875 : (s : Segment) → s .distance ≡ pos 1875 → s .height ≡ pos 0 → nearest (airFence s) ≡ pos 1
-  pub air-1876 : (s : Segment) → s .distance ≡ pos 1876 → s .height ≡ pos 0 → nearest (airFence s) ≡ pos 0
-  -- ground, with any mark
-  pub ground-10000 : (s : Segment) → s .screen ≡ pos 0 → s .distance ≡ pos 10000 → s .soft ≡ pos 10 → s .mean ≡ pos 600 → (mark : Bool) → byMark mark (pathFence s) ≡ pos 0
-  -- ground at a tie: the mark is required, and the louder neighbour taken
-  pub ground-25000 : (s : Segment) → s .screen ≡ pos 0 → s .distance ≡ pos 25000 → s .soft ≡ pos 5 → s .mean ≡ pos 350 → (mark : Bool) → GroundMark s mark → (mark ≡ true) × (byMark mark (pathFence s) ≡ negsuc 6)
-  -- opposite facades: 1 degree of 30 is a tie
-  pub opposite-30 : (s : Segment) → s .opposite ≡ pos 1 → s .view ≡ pos 30 → nearest (oppositeFence s) ≡ pos 1
-  pub opposite-31 : (s : Segment) → s .opposite ≡ pos 1 → s .view ≡ pos 31 → nearest (oppositeFence s) ≡ pos 0
-  -- trains, before the period's hours are taken off
-  pub trains-13 : (p : Period) (t : Train) → trainsIn p t ≡ 13 → nearest (trainsFence p t +ℤ micro (pos (hoursTenths p))) ≡ pos 111
-  -- the verdict of a day, at 68
-  pub day-67-5-met : meets 68 (pos 675) ≡ true
-  pub day-67-4-not : meets 68 (pos 674) ≡ false
 
 -- ---- speed, vehicles and trains: two tests of powers each
 
@@ -184,9 +160,9 @@ ground-tie s e d i h mark g =
     let m = tie-required mark (mark-at s 25000 5 350 e d i h tt mark g) in
     (m, ap₂ byMark m (path-at s 25000 5 350 e d i h tt) ∙ louder)
 
-pub readings-hold : Readings
-unfolding reaches nearest meets wholeDecibels clamp
-readings-hold =
+pub step-readings-hold : StepReadings
+unfolding reaches nearest clamp
+step-readings-hold =
     record {
       speed-100 = λ t e. speed-at t 100 e ∙ reading 31200000 50000 400 0 0 100 1 712 799 801 tt tt tt refl refl refl tt tt;
       speed-150 = λ t e. speed-at t 150 e ∙ reading 31200000 50000 400 0 0 150 1 747 869 871 tt tt tt refl refl refl tt tt;
@@ -200,6 +176,4 @@ readings-hold =
       opposite-30 = λ s o v. opposite-at s 1 30 o v;
       opposite-31 = λ s o v. opposite-at s 1 31 o v;
       trains-13 = λ p t e. ap nearest (trains-at p t 13 e) ∙ reading 0 50000 200 0 0 13 1 111 221 223 tt tt tt refl refl refl tt tt;
-      day-67-5-met = refl;
-      day-67-4-not = refl;
     }

@@ -6,3 +6,4 @@ pub mod Ground
 pub mod Entry
 pub mod Parts
 pub mod Path
+pub mod Readings

@@ -4,7 +4,7 @@ use mathlib.Core.Path.{_≡_, refl, sym, _∙_, ap, subst}
 use mathlib.Core.Bool.{Bool, true, false, _||_}
 use mathlib.Core.List.{List, [], _∷_}
 use Prim.Native.Nat.{ℕ, _+_, _≤_, _<_}
-use native.Mathlib.Nat.{le-trans, zero-lt-suc}
+use native.Mathlib.Nat.{le-refl, le-trans, zero-lt-suc}
 use native.Mathlib.Omega.{arith}
 use lib.IntN.{ℤ}
 use lib.ListN.{length}
@@ -17,7 +17,7 @@ use Rattle.steps.specs.Refusal.{unless}
 use Rattle.study.specs.declared.Entry.{Entry}
 use Rattle.study.specs.declared.request.Answer.{Answer}
 use Rattle.study.specs.Plan.{Plan, planOf}
-use Rattle.study.specs.Add.{Limits}
+use Rattle.study.specs.Add.{Limits, ours}
 use Rattle.study.specs.Run.{Addition, run, accepted, Roomy}
 use Rattle.study.specs.Levels.{Marks, resultBy}
 use Rattle.study.specs.Request.{cellsNeeded, levelsCheck, answerBy, AnsweredBy, Answered, resultIn}
@@ -57,3 +57,7 @@ pub levels-accurate : (l : Limits) → Roomy l → (additions : List Addition) (
     (before after : List ℤ) (r : Answer) → cellsNeeded (length (accepted l additions .entries)) ≤ length before → Answered (run l additions) before after r →
     AccurateToBare p (accepted l additions) (resultIn p r)
 levels-accurate l roomy additions p trains before after r enough a = demand-3 l roomy additions p trains _ before after r enough (a .by) .1
+
+-- Our own limits, so that no premise on sizes is left.
+pub ours-roomy : Roomy ours
+ours-roomy = record { segments = le-refl 24; entries = le-refl 96 }

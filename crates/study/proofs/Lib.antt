@@ -12,3 +12,4 @@ pub mod Results
 pub mod Answers
 pub mod Entries
 pub mod Demand3
+pub mod Readings

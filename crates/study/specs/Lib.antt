@@ -5,3 +5,4 @@ pub mod Levels
 pub mod Request
 pub mod Accuracy
 pub mod Parts
+pub mod Readings
