@@ -19,13 +19,14 @@ use Rattle.study.specs.Add.{Limits, segmentAnswer, trainAnswer, answer}
 
 -- ---- the answer by its check
 
-pub refused-keeps : (check : Check) (r : Refusal) (old new : Study) → check ≡ Refused r → _≡_ {A = Added} (record { check = Refused r; study = old }) (answer check old new)
-unfolding answer
-refused-keeps check r old new e = rw e
+module _ {got check : Check} (e : got ≡ check) (old new : Study) where
+  pub refused-keeps : {r : Refusal} → got ≡ Refused r → _≡_ {A = Added} (record { check = got; study = old }) (answer check old new)
+  unfolding answer
+  refused-keeps q = rw (← e, q)
 
-pub accepted-takes : (check : Check) (old new : Study) → check ≡ Accepted → _≡_ {A = Added} (record { check = Accepted; study = new }) (answer check old new)
-unfolding answer
-accepted-takes check old new e = rw e
+  pub accepted-takes : got ≡ Accepted → _≡_ {A = Added} (record { check = got; study = new }) (answer check old new)
+  unfolding answer
+  accepted-takes q = rw (← e, q)
 
 -- a statement of an answer's study, from those of its two cases
 pub by-answer : (P : Study → Type 0) (check : Check) (old new : Study) → P old → (check ≡ Accepted → P new) → P (answer check old new .study)

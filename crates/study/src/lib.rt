@@ -3,7 +3,7 @@ pub mod request;
 
 ghost use mathlib.Core.Path.{_≡_};
 ghost use Rattle.study.specs.Plan.{emptyStudy};
-ghost use Rattle.study.specs.Add.{ours, addSegment, addTrain};
+ghost use Rattle.study.specs.Add.{ours, segmentAnswer, trainAnswer, addSegment, addTrain};
 use steps::Check;
 use steps::Refusal;
 use steps::Segment;
@@ -25,8 +25,8 @@ pub struct Study {
 
 // What an addition answers: the refusal with the study as it was, or the new study.
 pub struct Added {
-    pub check: Check,
     pub study: Study,
+    pub check: Check,
 }
 
 // The study with nothing in it.
@@ -68,66 +68,55 @@ pub fn empty() -> Study
     }
 }
 
+// Whether a segment may be added to so many: the limit, then its own lines.
+fn segment_answer(count: usize, segment: Segment) -> Check
+    ensures { λ r. ⌜ r ≡ segmentAnswer ours count segment ⌝ }
+{
+    if 24 <= count {
+        return Check::Refused(Refusal::SegmentLimit);
+    }
+    steps::checks::segment_check(segment)
+}
+
 // The study with the segment after its last, or the refusal and the study as it was.
-pub fn add_segment(study: Study, segment: Segment) -> Added
+pub fn add_segment(mut study: Study, segment: Segment) -> Added
     ensures { λ r. ⌜ r ≡ addSegment ours study segment ⌝ }
 {
     let at = study.count;
-    if 24 <= at {
-        return Added {
-            check: Check::Refused(Refusal::SegmentLimit),
-            study: study,
-        };
+    let check = segment_answer(at, segment);
+    if let Check::Accepted = check {
+        study.segments[at] = segment;
+        study.count = at + 1;
     }
-    let check = steps::checks::segment_check(segment);
-    let Check::Accepted = check else {
-        return Added {
-            check: check,
-            study: study,
-        };
-    };
-    let mut next = study;
-    next.segments[at] = segment;
-    next.count = at + 1;
-    Added {
-        check: Check::Accepted,
-        study: next,
+    Added { study, check }
+}
+
+// Whether a train may be added to so many segments and entries: the last segment, the limit, then its own lines.
+fn train_answer(count: usize, total: usize, train: Train) -> Check
+    ensures { λ r. ⌜ r ≡ trainAnswer ours count total train ⌝ }
+{
+    if count == 0 {
+        return Check::Refused(Refusal::NoSegment);
     }
+    if 96 <= total {
+        return Check::Refused(Refusal::EntryLimit);
+    }
+    steps::checks::train_check(train)
 }
 
 // The study with the train at its last segment, or the refusal and the study as it was.
-pub fn add_train(study: Study, train: Train) -> Added
+pub fn add_train(mut study: Study, train: Train) -> Added
     ensures { λ r. ⌜ r ≡ addTrain ours study train ⌝ }
 {
     let count = study.count;
-    if count == 0 {
-        return Added {
-            check: Check::Refused(Refusal::NoSegment),
-            study: study,
-        };
-    }
     let at = study.total;
-    if 96 <= at {
-        return Added {
-            check: Check::Refused(Refusal::EntryLimit),
-            study: study,
+    let check = train_answer(count, at, train);
+    if let Check::Accepted = check {
+        study.entries[at] = Entry {
+            segment: count - 1,
+            train: train,
         };
+        study.total = at + 1;
     }
-    let check = steps::checks::train_check(train);
-    let Check::Accepted = check else {
-        return Added {
-            check: check,
-            study: study,
-        };
-    };
-    let mut next = study;
-    next.entries[at] = Entry {
-        segment: count - 1,
-        train: train,
-    };
-    next.total = at + 1;
-    Added {
-        check: Check::Accepted,
-        study: next,
-    }
+    Added { study, check }
 }

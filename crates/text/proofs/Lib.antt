@@ -7,3 +7,4 @@ pub mod Places
 pub mod Rest
 pub mod Runs
 pub mod Refusals
+pub mod Accuracy

@@ -1,6 +1,6 @@
--- What stands at a position of a text: no line, bytes that no line feed ends, or a line; and what one step of the reading answers there.
+-- What stands at a position of a text: no line, bytes that no line feed ends, or a line; and what is read of it.
 -- Assumes nothing.
-use mathlib.Core.Path.{_≡_, refl, ap}
+use mathlib.Core.Path.{_≡_, refl, sym, ap}
 use mathlib.Core.Logic.{⊎-elim}
 use Prim.Native.Nat.{ℕ, suc, _+_, _≤_, _<_}
 use mathlib.Core.List.{List, [], _∷_}
@@ -9,16 +9,18 @@ use lib.ListN.{length, drop, length-drop, drop-of-length-le}
 use lib.Seq.{drop-drop}
 use borrow.Author.Tests.{lt-ltb, le-ltb}
 use Rattle.steps.specs.declared.Refusal.the-variants as R
-use Rattle.study.specs.declared.Study.{Study}
-use Rattle.study.specs.Add.{Limits}
+use Rattle.steps.specs.declared.Segment.{Segment}
+use Rattle.steps.specs.declared.Train.{Train}
 use Rattle.text.specs.Bytes.{until, split}
 use Rattle.text.specs.Lines.{segmentOf, trainOf}
-use Rattle.text.specs.Text.{ended, torn, lastLine, linesIn, linesOf, turnedBack, segmentAdds, trainAdds, addLine}
-use Rattle.text.specs.Parts.{stepped, stepOn, stepAt}
-use Rattle.text.specs.declared.Kind.{Kind}
-use Rattle.text.specs.declared.Kind.the-variants as K
-use Rattle.text.specs.declared.lines.SegmentLine.{SegmentLine}
-use Rattle.text.specs.declared.lines.TrainLine.{TrainLine}
+use Rattle.text.specs.Text.{ended, torn, lastLine, linesIn, linesOf}
+use Rattle.text.specs.Parts.{Found, firstRead, SegmentAt, TrainAt, faultOf}
+use Rattle.text.specs.declared.lines.SegmentLine.the-variants as S
+use Rattle.text.specs.declared.lines.TrainLine.the-variants as T
+use Rattle.text.specs.declared.SegmentStep.{SegmentStep}
+use Rattle.text.specs.declared.SegmentStep.the-variants as SS
+use Rattle.text.specs.declared.TrainStep.{TrainStep}
+use Rattle.text.specs.declared.TrainStep.the-variants as TS
 use Rattle.text.proofs.Bytes.{split-first, until-within}
 use Rattle.text.proofs.Positions.{lt-or-ge}
 
@@ -57,42 +59,55 @@ view text at = ⊎-elim (λ h. ⊎-elim (more h) (rest h) (lt-or-ge k (length (d
         at-line (omega (arith, length-drop at text))
         (rw (split-first 10 (drop at text), lt-ltb k (length (drop at text)) l, drop-drop (suc k) at text, e) (lines-more (until 10 (drop at text)) (drop (at + k + 1) text)))
 
--- what a step returns on each way
-module _ (l : Limits) (p : Kind) (st : Study) (text : List ℕ) (at : ℕ) where
-  pub step-missing : length text ≤ at → stepped at (turnedBack st R.Contents) ≡ stepAt l p st text at
-  unfolding stepAt stepOn
-  step-missing h = go (view text at)
+-- what is read of the line at a position, on each way
+module _ {A : Type 0} (malformed : A) (read : List ℕ → A) (text : List ℕ) (at : ℕ) {line : List ℕ} (q : line ≡ until 10 (drop at text)) where
+  pub unended-malformed : length text ≤ at + length line → firstRead malformed read (linesOf (drop at text)) ≡ malformed
+  unfolding firstRead
+  unended-malformed h = go (view text at)
     where
-      go : View text at → stepped at (turnedBack st R.Contents) ≡ stepAt l p st text at
-      go (at-end _ e) = rw e
-      go (at-torn m _ e) = absurd (omega arith)
+      go : View text at → firstRead malformed read (linesOf (drop at text)) ≡ malformed
+      go (at-end m e) = rw e
+      go (at-torn m z e) = rw e
+      go (at-line m e) = absurd (omega (arith, ap length q))
+
+  module _ (h : at + length line < length text) where
+    line-stands : linesOf (drop at text) ≡ ended line ∷ linesOf (drop (at + length line + 1) text)
+    line-stands = go (view text at)
+      where
+        go : View text at → linesOf (drop at text) ≡ ended line ∷ linesOf (drop (at + length line + 1) text)
+        go (at-end m e) = absurd (omega arith)
+        go (at-torn m z e) = absurd (omega (arith, ap length q))
+        go (at-line m e) = rw q e
+
+    pub fields-malformed : malformed ≡ read line → firstRead malformed read (linesOf (drop at text)) ≡ malformed
+    unfolding firstRead
+    fields-malformed e = rw line-stands (sym e)
+
+    pub fields-found : {fields : A} → fields ≡ read line → Found read fields text at (at + length line + 1)
+    fields-found e = record { line = line; is = e; ahead = omega arith; within = omega arith; lines = line-stands }
+
+-- why nothing could be read there
+module _ (text : List ℕ) (at : ℕ) where
+  pub fault-missing : length text ≤ at → R.Contents ≡ faultOf (linesOf (drop at text))
+  fault-missing h = go (view text at)
+    where
+      go : View text at → R.Contents ≡ faultOf (linesOf (drop at text))
+      go (at-end m e) = rw e
+      go (at-torn m z e) = absurd (omega arith)
       go (at-line m e) = absurd (omega arith)
 
-  module _ {line : List ℕ} (q : line ≡ until 10 (drop at text)) (h : at < length text) where
-    pub step-torn : at + length line ≡ length text → stepped at (turnedBack st R.Form) ≡ stepAt l p st text at
-    unfolding stepAt stepOn
-    step-torn z = go (view text at)
-      where
-        go : View text at → stepped at (turnedBack st R.Form) ≡ stepAt l p st text at
-        go (at-end m e) = absurd (omega arith)
-        go (at-torn m _ e) = rw e
-        go (at-line m e) = absurd (omega (arith, ap length q))
+  pub fault-form : at < length text → R.Form ≡ faultOf (linesOf (drop at text))
+  fault-form h = go (view text at)
+    where
+      go : View text at → R.Form ≡ faultOf (linesOf (drop at text))
+      go (at-end m e) = absurd (omega arith)
+      go (at-torn m z e) = rw e
+      go (at-line m e) = rw e
 
-    pub step-line : (at + length line ≡ length text → ⊥) → stepped (at + length line + 1) (addLine l p st (ended line)) ≡ stepAt l p st text at
-    unfolding stepAt stepOn
-    step-line n = go (view text at)
-      where
-        go : View text at → stepped (at + length line + 1) (addLine l p st (ended line)) ≡ stepAt l p st text at
-        go (at-end m e) = absurd (omega arith)
-        go (at-torn m z e) = absurd (n (omega (arith, ap length q)))
-        go (at-line m e) = rw (e, q)
+-- the fields that were read there
+module _ {text : List ℕ} {at next : ℕ} where
+  pub segment-found : {r : SegmentStep} {s : Segment} → r ≡ SS.Fields s next → SegmentAt text at r → Found segmentOf (S.Fields s) text at next
+  segment-found e w = rw e at w
 
--- what a line of each kind adds, from what was read of its fields
-module _ (l : Limits) {k : Kind} (st : Study) (line : List ℕ) where
-  pub adds-segment : k ≡ K.Segment → {r : SegmentLine} → r ≡ segmentOf line → segmentAdds l st r ≡ addLine l k st (ended line)
-  unfolding addLine
-  adds-segment q e = rw (q, e)
-
-  pub adds-train : k ≡ K.Train → {r : TrainLine} → r ≡ trainOf line → trainAdds l st r ≡ addLine l k st (ended line)
-  unfolding addLine
-  adds-train q e = rw (q, e)
+  pub train-found : {r : TrainStep} {t : Train} → r ≡ TS.Fields t next → TrainAt text at r → Found trainOf (T.Fields t) text at next
+  train-found e w = rw e at w

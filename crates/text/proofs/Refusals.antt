@@ -25,9 +25,8 @@ use Rattle.study.specs.Add.{Limits, segmentAnswer, trainAnswer, withSegment, wi
 use Rattle.text.specs.Numbers.{front, numbersOf}
 use Rattle.text.specs.Lines.{segmentOf, trainOf}
 use Rattle.text.specs.Contents.{Read, refused, counts, isCount, countsIn, sumOf, between, inAll, contentsIn, contentsOf}
-use Rattle.text.specs.Text.{Line, ended, torn, linesOf, trains, kindsOf, turnedBack, segmentAdds, trainAdds, addLine, refusedAt, after, readLines, readBody, readFrom, readText}
-use Rattle.text.specs.declared.Kind.{Kind}
-use Rattle.text.specs.declared.Kind.the-variants as K
+use Rattle.text.specs.Text.{Line, ended, torn, linesOf, Kind, trains, kindsOf, turnedBack, segmentAdds, trainAdds, addLine, refusedAt, after, readLines, readBody, readFrom, readText}
+use Rattle.text.specs.Text as K
 use Rattle.text.specs.declared.Reading.{Reading}
 use Rattle.text.specs.declared.lines.SegmentLine.{SegmentLine}
 use Rattle.text.specs.declared.lines.SegmentLine.the-variants as S

@@ -1,6 +1,6 @@
 -- The reading from a position on: what is left of the text and of the kinds of line to come gives the whole answer.
 -- Assumes nothing.
-use mathlib.Core.Path.{_≡_, sym, ap, _∙_}
+use mathlib.Core.Path.{_≡_, refl, sym, ap, _∙_}
 use Prim.Native.Nat.{ℕ, suc, _+_, _-_, _≤_, _<_}
 use mathlib.Core.List.{List, [], _∷_}
 use native.Mathlib.Numerals.{add-one}
@@ -13,53 +13,57 @@ use Rattle.steps.specs.declared.Refusal.{Refusal}
 use Rattle.steps.specs.declared.Refusal.the-variants as R
 use Rattle.steps.specs.declared.Check.the-variants.{Accepted, Refused}
 use Rattle.study.specs.declared.Study.{Study}
+use Rattle.study.specs.declared.Added.{Added}
 use Rattle.study.specs.Plan.{emptyStudy}
 use Rattle.study.specs.Add.{Limits}
 use Rattle.text.specs.Bytes.{until}
+use Rattle.text.specs.Lines.{segmentOf, trainOf}
 use Rattle.text.specs.Contents.{Read, contentsOf}
-use Rattle.text.specs.Text.{Line, linesOf, trains, kindsOf, addLine, acceptedWith, refusedAt, readLines, readBody, readFrom, readText}
-use Rattle.text.specs.Parts.{stepOn, stepAt, ContentsRead}
-use Rattle.text.specs.declared.Kind.{Kind}
-use Rattle.text.specs.declared.Kind.the-variants as K
+use Rattle.text.specs.Text as K
+use Rattle.text.specs.Text.{Line, ended, torn, linesOf, Kind, trains, kindsOf, turnedBack, segmentAdds, trainAdds, addLine, acceptedWith, refusedAt, readLines, readBody, readFrom, readText}
+use Rattle.text.specs.Parts.{Found, firstRead, faultOf, ContentsRead}
 use Rattle.text.specs.declared.contents.Contents as contents
-use Rattle.text.specs.declared.Step.{Step}
+use Rattle.text.specs.declared.lines.SegmentLine.{SegmentLine}
+use Rattle.text.specs.declared.lines.SegmentLine.the-variants as S
+use Rattle.text.specs.declared.lines.TrainLine.{TrainLine}
+use Rattle.text.specs.declared.lines.TrainLine.the-variants as T
 use Rattle.text.proofs.Bytes.{until-within}
 use Rattle.text.proofs.Places.{View, at-end, at-torn, at-line, view}
 
 pub never : {A : Type 0} {r : Refusal} → Refused r ≡ Accepted → A
 never e = let z : _≡_ {A = ℕ} 0 1 = cc in absurd (omega arith)
 
--- ---- one line of the reading, from what the step at its position says
+-- ---- a kind of line: what is read of it, and what that adds
 
-module _ (l : Limits) (p : Kind) (st : Study) (text : List ℕ) (at k : ℕ) (ps : List Kind) where
-  read-line : stepAt l p st text at .check ≡ Accepted
-      → readLines l st k (p ∷ ps) (linesOf (drop at text)) ≡ readLines l (stepAt l p st text at .study) (k + 1) ps (linesOf (drop (stepAt l p st text at .next) text))
-  unfolding readLines stepAt stepOn
-  read-line z = go (view text at)
-    where
-      go : View text at → readLines l st k (p ∷ ps) (linesOf (drop at text))
-          ≡ readLines l (stepAt l p st text at .study) (k + 1) ps (linesOf (drop (stepAt l p st text at .next) text))
-      go (at-end m e) = never (rw e at z)
-      go (at-torn m q e) = never (rw e at z)
-      go (at-line m e) = rw e (rw (rw e at z))
+pub record Reader (l : Limits) (p : Kind) (A : Type 0) : Type 0 where
+  pub malformed : A
+  pub read : List ℕ → A
+  pub adds : Study → A → Added
+  pub refuses : (st : Study) → adds st malformed ≡ turnedBack st R.Form
+  pub line-adds : (st : Study) (line : List ℕ) → addLine l p st (ended line) ≡ adds st (read line)
 
-  read-refused : {r : Refusal} → stepAt l p st text at .check ≡ Refused r → readLines l st k (p ∷ ps) (linesOf (drop at text)) ≡ refusedAt r k
-  unfolding readLines stepAt stepOn addLine
-  read-refused {r} z = go (view text at)
-    where
-      go : View text at → readLines l st k (p ∷ ps) (linesOf (drop at text)) ≡ refusedAt r k
-      go (at-end m e) = let y : Refused R.Contents ≡ Refused r = rw e at z in let x : R.Contents ≡ r = cc in rw (e, ← x)
-      go (at-torn m q e) = let y : Refused R.Form ≡ Refused r = rw e at z in let x : R.Form ≡ r = cc in rw (e, ← x)
-      go (at-line m e) = rw e (rw (rw e at z))
+module _ (l : Limits) (st : Study) (line : List ℕ) where
+  pub segment-adds : addLine l K.Segment st (ended line) ≡ segmentAdds l st (segmentOf line)
+  unfolding addLine
+  segment-adds = refl
 
-  read-within : stepAt l p st text at .check ≡ Accepted → (at < stepAt l p st text at .next) × (stepAt l p st text at .next ≤ length text)
-  unfolding stepAt stepOn
-  read-within z = go (view text at)
-    where
-      go : View text at → (at < stepAt l p st text at .next) × (stepAt l p st text at .next ≤ length text)
-      go (at-end m e) = never (rw e at z)
-      go (at-torn m q e) = never (rw e at z)
-      go (at-line m e) = rw e (omega arith, omega arith)
+  pub train-adds : addLine l K.Train st (ended line) ≡ trainAdds l st (trainOf line)
+  unfolding addLine
+  train-adds = refl
+
+abbrev pub segmentReader : (l : Limits) → Reader l K.Segment SegmentLine
+segmentReader l = record { malformed = S.Malformed; read = segmentOf; adds = segmentAdds l; refuses = λ st. refl; line-adds = segment-adds l }
+
+abbrev pub trainReader : (l : Limits) → Reader l K.Train TrainLine
+trainReader l = record { malformed = T.Malformed; read = trainOf; adds = trainAdds l; refuses = λ st. refl; line-adds = train-adds l }
+
+-- nothing could be read of the first line: it is at fault
+read-fault : {l : Limits} {p : Kind} {A : Type 0} (reader : Reader l p A) (st : Study) (k : ℕ) (ps : List Kind) (xs : List Line)
+    → firstRead (reader .malformed) (reader .read) xs ≡ reader .malformed → readLines l st k (p ∷ ps) xs ≡ refusedAt (faultOf xs) k
+unfolding readLines firstRead addLine
+read-fault reader st k ps [] e = refl
+read-fault reader st k ps (torn ∷ xs) e = refl
+read-fault reader st k ps (ended line ∷ xs) e = rw (reader .line-adds st line, e, reader .refuses st)
 
 -- no kind of line is left
 module _ (l : Limits) (st : Study) (text : List ℕ) (at k : ℕ) where
@@ -111,15 +115,23 @@ module _ {l : Limits} {text : List ℕ} {start : ℕ} {counts : List ℕ} {st : 
     unfolding trains
     rest-after h = let e : n - j ≡ 0 = omega arith in rw e at r
 
-  module _ {p : Kind} {ps : List Kind} (r : Rest l text start counts st at k (p ∷ ps)) {t : Step} (e : t ≡ stepAt l p st text at) where
-    pub rest-next : t .check ≡ Accepted → Rest l text start counts (t .study) (t .next) (k + 1) ps
-    rest-next z =
-        let y : stepAt l p st text at .check ≡ Accepted = rw e at z in
-        let b = read-within l p st text at k ps y in
-        rw e (record { within = b .1; bound = omega (arith, b .0, r .bound); whole = r .whole ∙ read-line l p st text at k ps y })
+  module _ {p : Kind} {A : Type 0} (reader : Reader l p A) {ps : List Kind} (r : Rest l text start counts st at k (p ∷ ps)) where
+    pub rest-fault : firstRead (reader .malformed) (reader .read) (linesOf (drop at text)) ≡ reader .malformed → {f : Refusal} → f ≡ faultOf (linesOf (drop at text))
+        → refusedAt f k ≡ readLines l emptyStudy 2 (kindsOf counts) (linesOf (drop start text))
+    rest-fault e q = rw q (sym (r .whole ∙ read-fault reader st k ps (linesOf (drop at text)) e))
 
-    pub rest-refused : {f : Refusal} → t .check ≡ Refused f → refusedAt f k ≡ readLines l emptyStudy 2 (kindsOf counts) (linesOf (drop start text))
-    rest-refused {f} z = sym (r .whole ∙ read-refused l p st text at k ps {r = f} (rw e at z))
+    module _ {fields : A} {next : ℕ} (w : Found (reader .read) fields text at next) {a : Added} (e : a ≡ reader .adds st fields) where
+      added : a ≡ addLine l p st (ended (w .line))
+      added = e ∙ rw (w .is) (sym (reader .line-adds st (w .line)))
+
+      pub rest-next : a .check ≡ Accepted → Rest l text start counts (a .study) next (k + 1) ps
+      unfolding readLines
+      rest-next z =
+          record { within = w .within; bound = omega (arith, w .ahead, r .bound); whole = r .whole ∙ rw (w .lines, ← added, z) }
+
+      pub rest-refused : {f : Refusal} → a .check ≡ Refused f → refusedAt f k ≡ readLines l emptyStudy 2 (kindsOf counts) (linesOf (drop start text))
+      unfolding readLines
+      rest-refused z = sym (r .whole ∙ rw (w .lines, ← added, z))
 
   pub rest-over : Rest l text start counts st at k [] → at < length text → refusedAt R.Contents k ≡ readLines l emptyStudy 2 (kindsOf counts) (linesOf (drop start text))
   rest-over r h = sym (r .whole ∙ read-over l st text at k h)

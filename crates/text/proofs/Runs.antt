@@ -16,10 +16,9 @@ use Rattle.study.specs.Add.{Limits}
 use Rattle.study.specs.Run.{Addition, step, runFrom, run}
 use Rattle.text.specs.Lines.{segmentOf, trainOf}
 use Rattle.text.specs.Contents.{Read, refused, counts, contentsOf}
-use Rattle.text.specs.Text.{Line, ended, torn, linesOf, kindsOf, segmentAdds, trainAdds, addLine, refusedAt, after, readLines, readBody, readFrom, readText}
+use Rattle.text.specs.Text.{Line, ended, torn, linesOf, Kind, kindsOf, segmentAdds, trainAdds, addLine, refusedAt, after, readLines, readBody, readFrom, readText}
 use Rattle.text.specs.Additions.{segmentAddition, trainAddition, lineAdditions, linesAdditions, bodyAdditions, additionsIn, additionsOf}
-use Rattle.text.specs.declared.Kind.{Kind}
-use Rattle.text.specs.declared.Kind.the-variants as K
+use Rattle.text.specs.Text as K
 use Rattle.text.specs.declared.Reading.{Reading}
 use Rattle.text.specs.declared.lines.SegmentLine.{SegmentLine}
 use Rattle.text.specs.declared.lines.SegmentLine.the-variants as S

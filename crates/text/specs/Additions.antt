@@ -7,9 +7,7 @@ use Rattle.study.specs.Run.{Addition}
 use Rattle.study.specs.Run as Run
 use Rattle.text.specs.Lines.{segmentOf, trainOf}
 use Rattle.text.specs.Contents.{Read, refused, counts, contentsOf}
-use Rattle.text.specs.Text.{Line, ended, torn, linesOf, kindsOf}
-use Rattle.text.specs.declared.Kind.{Kind}
-use Rattle.text.specs.declared.Kind.the-variants.{Segment, Train}
+use Rattle.text.specs.Text.{Line, ended, torn, linesOf, Kind, Segment, Train, kindsOf}
 use Rattle.text.specs.declared.lines.SegmentLine.{SegmentLine}
 use Rattle.text.specs.declared.lines.SegmentLine.the-variants as S
 use Rattle.text.specs.declared.lines.TrainLine.{TrainLine}

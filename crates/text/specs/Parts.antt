@@ -1,23 +1,22 @@
 -- What the parts of the reading ensure: the enums' cases, and what is read from a position on. Only private contracts cite it.
 -- Assumes nothing.
 use mathlib.Core.Path.{_≡_}
-use Prim.Native.Nat.{ℕ, _+_, _≤_, _<_}
+use Prim.Native.Nat.{ℕ, _≤_, _<_}
 use mathlib.Core.List.{List, [], _∷_}
 use mathlib.Core.Bool.{cond}
 use mathlib.Core.Option.{Option, none, some}
 use lib.ListN.{length, take, drop}
 use lib.Dec.{leb}
 use lib.IntN.{ℤ, pos, negsuc}
+use Rattle.steps.specs.declared.Refusal.{Refusal}
 use Rattle.steps.specs.declared.Refusal.the-variants.{Form, Contents}
 use Rattle.steps.specs.declared.Check.{Check}
 use Rattle.steps.specs.declared.Check.the-variants.{Accepted, Refused}
-use Rattle.study.specs.declared.Study.{Study}
-use Rattle.study.specs.declared.Added.{Added}
 use Rattle.study.specs.Add.{Limits}
-use Rattle.text.specs.Bytes.{until}
 use Rattle.text.specs.Numbers.{numbersOf}
 use Rattle.text.specs.Contents.{Read, refused, counts, countsIn, inAll}
-use Rattle.text.specs.Text.{Line, ended, torn, linesOf, turnedBack, addLine}
+use Rattle.text.specs.Lines.{segmentOf, trainOf}
+use Rattle.text.specs.Text.{Line, ended, torn, linesOf}
 use Rattle.text.specs.declared.numbers.Word.{Word}
 use Rattle.text.specs.declared.numbers.Word.the-variants as W
 use Rattle.text.specs.declared.numbers.Digits.{Digits}
@@ -27,8 +26,12 @@ use Rattle.text.specs.declared.contents.Natural.the-variants as L
 use Rattle.text.specs.declared.contents.Count.{Count}
 use Rattle.text.specs.declared.contents.Count.the-variants as C
 use Rattle.text.specs.declared.contents.Contents as contents
-use Rattle.text.specs.declared.Kind.{Kind}
-use Rattle.text.specs.declared.Step.{Step}
+use Rattle.text.specs.declared.lines.SegmentLine.the-variants as S
+use Rattle.text.specs.declared.lines.TrainLine.the-variants as T
+use Rattle.text.specs.declared.SegmentStep.{SegmentStep}
+use Rattle.text.specs.declared.SegmentStep.the-variants as SS
+use Rattle.text.specs.declared.TrainStep.{TrainStep}
+use Rattle.text.specs.declared.TrainStep.the-variants as TS
 
 -- ---- numbers
 
@@ -77,15 +80,31 @@ pub record ContentsRead (x : Read) (r : contents.Contents) : Type 0 where
   pub is : readAs (r .check) (take (r .count) (r .list)) ≡ x
   pub room : r .count ≤ length (r .list)
 
--- ---- one line of a kind at a position of the text: the study after it, and where the next line starts
+-- ---- the line at a position of the text
 
-abbrev pub stepped : ℕ → Added → Step
-stepped next a = record { check = a .check; next = next; study = a .study }
+-- a line stands at a position, of which the fields were read; the next line starts after it
+pub record Found {A : Type 0} (read : List ℕ → A) (fields : A) (text : List ℕ) (at next : ℕ) : Type 0 where
+  pub line : List ℕ
+  pub is : fields ≡ read line
+  pub ahead : at < next
+  pub within : next ≤ length text
+  pub lines : linesOf (drop at text) ≡ ended line ∷ linesOf (drop next text)
 
-unfoldable pub stepOn : Limits → Kind → Study → ℕ → ℕ → List Line → Step
-stepOn l p st at next [] = stepped at (turnedBack st Contents)
-stepOn l p st at next (torn ∷ xs) = stepped at (turnedBack st Form)
-stepOn l p st at next (ended line ∷ xs) = stepped next (addLine l p st (ended line))
+-- what is read of the first line; where there is none, or no line feed ends it, as of a malformed one
+unfoldable pub firstRead : {A : Type 0} → A → (List ℕ → A) → List Line → A
+firstRead malformed read [] = malformed
+firstRead malformed read (torn ∷ xs) = malformed
+firstRead malformed read (ended line ∷ xs) = read line
 
-unfoldable pub stepAt : Limits → Kind → Study → List ℕ → ℕ → Step
-stepAt l p st text at = stepOn l p st at (at + length (until 10 (drop at text)) + 1) (linesOf (drop at text))
+abbrev pub SegmentAt : List ℕ → ℕ → SegmentStep → Type 0
+SegmentAt text at (SS.Fields s next) = Found segmentOf (S.Fields s) text at next
+SegmentAt text at SS.Malformed = firstRead S.Malformed segmentOf (linesOf (drop at text)) ≡ S.Malformed
+
+abbrev pub TrainAt : List ℕ → ℕ → TrainStep → Type 0
+TrainAt text at (TS.Fields t next) = Found trainOf (T.Fields t) text at next
+TrainAt text at TS.Malformed = firstRead T.Malformed trainOf (linesOf (drop at text)) ≡ T.Malformed
+
+-- why nothing could be read of the first line
+abbrev pub faultOf : List Line → Refusal
+faultOf [] = Contents
+faultOf (x ∷ xs) = Form

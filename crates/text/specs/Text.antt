@@ -20,8 +20,6 @@ use Rattle.text.specs.declared.lines.SegmentLine.{SegmentLine}
 use Rattle.text.specs.declared.lines.SegmentLine.the-variants as S
 use Rattle.text.specs.declared.lines.TrainLine.{TrainLine}
 use Rattle.text.specs.declared.lines.TrainLine.the-variants as T
-use Rattle.text.specs.declared.Kind.{Kind}
-use Rattle.text.specs.declared.Kind.the-variants.{Segment, Train}
 use Rattle.text.specs.declared.Reading.{Reading}
 
 -- "a line feed after each line": a line that one ends, without it; or bytes at the end of the text that none ends
@@ -41,6 +39,11 @@ linesIn (p ∷ q ∷ qs) = ended p ∷ linesIn (q ∷ qs)
 
 unfoldable pub linesOf : List ℕ → List Line
 linesOf text = linesIn (split 10 text)
+
+-- which line is to come
+pub data Kind : Type 0 where
+  Segment : Kind
+  Train : Kind
 
 -- "Then each segment's line, its train lines after it": the kinds of line to come, from the segments' entry counts
 unfoldable pub trains : ℕ → List Kind → List Kind

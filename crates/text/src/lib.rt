@@ -9,8 +9,8 @@ ghost use lib.ListN.{length, drop};
 ghost use Rattle.study.specs.Add.{ours};
 ghost use Rattle.study.specs.Plan.{emptyStudy};
 ghost use Rattle.text.specs.Bytes.{until};
-ghost use Rattle.text.specs.Text.{ended, addLine, acceptedWith, refusedAt, readLines, kindsOf, linesOf, readText};
-ghost use Rattle.text.specs.Parts.{stepAt};
+ghost use Rattle.text.specs.Text.{acceptedWith, refusedAt, readLines, kindsOf, linesOf, readText};
+ghost use Rattle.text.specs.Parts.{SegmentAt, TrainAt, faultOf};
 use contents::contents_of;
 use lines::SegmentLine;
 use lines::TrainLine;
@@ -18,7 +18,8 @@ use lines::segment_of;
 use lines::train_of;
 use steps::Check;
 use steps::Refusal;
-use study::Added;
+use steps::Segment;
+use steps::Train;
 use study::Study;
 use study::add_segment;
 use study::add_train;
@@ -31,17 +32,16 @@ pub struct Reading {
     pub study: Study,
 }
 
-// Which line is to come.
-enum Kind {
-    Segment,
-    Train,
+// The fields of a segment's line and where the next line starts.
+enum SegmentStep {
+    Fields(Segment, usize),
+    Malformed,
 }
 
-// One line read: the study after it, and where the next line starts.
-struct Step {
-    check: Check,
-    next: usize,
-    study: Study,
+// The fields of a train line and where the next line starts.
+enum TrainStep {
+    Fields(Train, usize),
+    Malformed,
 }
 
 // The position of the first `sep` of `s` from `at` on, or the length where there is none.
@@ -69,60 +69,46 @@ pub fn line_at(text: &[u8], at: usize) -> &[u8]
     &text[at..end]
 }
 
-// What a line of a kind adds to the study, or the refusal with the study as it was.
-fn line_added(kind: Kind, line: &[u8], study: Study) -> Added
-    ensures { λ r. ⌜ r ≡ addLine ours kind study (ended (now (line .entry))) ⌝ }
+// The segment's line at a position of the text.
+fn segment_at(text: &[u8], at: usize) -> SegmentStep
+    requires { ⌜ at ≤ length (now text) ⌝ }
+    ensures { λ r. ⌜ SegmentAt (now (text .entry)) at r ⌝ }
 {
-    match kind {
-        Kind::Segment => {
-            let SegmentLine::Fields(s) = segment_of(line) else {
-                return Added {
-                    check: Check::Refused(Refusal::Form),
-                    study,
-                };
-            };
-            add_segment(study, s)
-        }
-        Kind::Train => {
-            let TrainLine::Fields(t) = train_of(line) else {
-                return Added {
-                    check: Check::Refused(Refusal::Form),
-                    study,
-                };
-            };
-            add_train(study, t)
-        }
-    }
-}
-
-// The line at a position of the text, added to the study.
-fn step_at(kind: Kind, text: &[u8], at: usize, study: Study) -> Step
-    ensures { λ r. ⌜ r ≡ stepAt ours kind study (now (text .entry)) at ⌝ }
-{
-    if text.len() <= at {
-        return Step {
-            check: Check::Refused(Refusal::Contents),
-            next: at,
-            study,
-        };
-    }
     let line = line_at(text, at);
     let end = at + line.len();
-    if end == text.len() {
-        return Step {
-            check: Check::Refused(Refusal::Form),
-            next: at,
-            study,
-        };
+    if text.len() <= end {
+        return SegmentStep::Malformed;
     }
-    let added = line_added(kind, line, study);
-    let check = added.check;
-    let after = added.study;
-    Step {
-        check,
-        next: end + 1,
-        study: after,
+    let SegmentLine::Fields(segment) = segment_of(line) else {
+        return SegmentStep::Malformed;
+    };
+    SegmentStep::Fields(segment, end + 1)
+}
+
+// The train line at a position of the text.
+fn train_at(text: &[u8], at: usize) -> TrainStep
+    requires { ⌜ at ≤ length (now text) ⌝ }
+    ensures { λ r. ⌜ TrainAt (now (text .entry)) at r ⌝ }
+{
+    let line = line_at(text, at);
+    let end = at + line.len();
+    if text.len() <= end {
+        return TrainStep::Malformed;
     }
+    let TrainLine::Fields(train) = train_of(line) else {
+        return TrainStep::Malformed;
+    };
+    TrainStep::Fields(train, end + 1)
+}
+
+// Why nothing could be read at a position: there is no line, or it is malformed.
+fn fault_at(text: &[u8], at: usize) -> Refusal
+    ensures { λ r. ⌜ r ≡ faultOf (linesOf (drop at (now (text .entry)))) ⌝ }
+{
+    if text.len() <= at {
+        return Refusal::Contents;
+    }
+    Refusal::Form
 }
 
 // A text that was read to its end.
@@ -163,24 +149,30 @@ fn read_lines(text: &[u8], start: usize, counts: &[usize]) -> Reading
             }
             break 'reading accepted(study);
         }
-        let head = step_at(Kind::Segment, text, at, study);
-        let check = head.check;
+        let SegmentStep::Fields(segment, next) = segment_at(text, at) else {
+            break 'reading refused(fault_at(text, at), line);
+        };
+        let added = add_segment(study, segment);
+        let check = added.check;
         if let Check::Refused(refusal) = check {
             break 'reading refused(refusal, line);
         }
-        study = head.study;
-        at = head.next;
+        study = added.study;
+        at = next;
         line += 1;
         let count = counts[s];
         let mut j = 0;
         while j < count {
-            let entry = step_at(Kind::Train, text, at, study);
-            let check = entry.check;
+            let TrainStep::Fields(train, next) = train_at(text, at) else {
+                break 'reading refused(fault_at(text, at), line);
+            };
+            let added = add_train(study, train);
+            let check = added.check;
             if let Check::Refused(refusal) = check {
                 break 'reading refused(refusal, line);
             }
-            study = entry.study;
-            at = entry.next;
+            study = added.study;
+            at = next;
             line += 1;
             j += 1;
         }

@@ -1,60 +1,47 @@
--- `study::add_segment` meets its contract: each answer by its check.
+-- `study::add_segment` meets its contract: the answer's own check, accepted or refused.
 -- Assumes nothing.
 use borrow.Author.Needs.{needs}
-use mathlib.Core.Path.{sym, _∙_}
-use Rattle.study.specs.Add.{ours, addSegment, withSegment}
-use Rattle.study.proofs.Additions.{refused-keeps, accepted-takes, segments-full, segments-room}
+use native.Mathlib.Omega.{arith}
+use mathlib.Core.Path.{_≡_, sym, _∙_}
+use Rattle.steps.specs.declared.Check.the-variants.{Accepted}
+use Rattle.study.specs.Add.{ours, segmentAnswer, addSegment, withSegment}
+use Rattle.study.proofs.Additions.{refused-keeps, accepted-takes, segment-taken}
 use Rattle.study.proofs.add_segment.Statement.{statement}
 use Rattle.study.proofs.add_segment.Tie as tie
 
+accepted : (c : tie.After-enum-told) → segmentAnswer ours (c .before .before .before .args .t1 .count) (c .before .before .before .args .segment) ≡ Accepted
+accepted c = sym (c .before .before .segment-answer .ensures) ∙ c .enum-told .given .1
+
+mul-segment : tie.Need-mul-segment
+mul-segment c = omega (arith, segment-taken ours _ _ (accepted c))
+
+element-set-from-segment : tie.Need-element-set-from-segment
+element-set-from-segment c = segment-taken ours _ _ (accepted c) .room
+
+add-study : tie.Need-add-study
+add-study c = omega (arith, segment-taken ours _ _ (accepted c))
+
 returns : tie.Need-returns
-unfolding addSegment
+unfolding addSegment withSegment
 returns c =
-    let a = c .before .args in
-    refused-keeps _ _ (a .study) (withSegment (a .study) (a .segment)) (segments-full ours (a .study .count) (a .segment) (c .if1 .taken))
-
-segment-check-requires : tie.Need-segment-check-requires
-segment-check-requires c κs = search needs
-
-enum-told : tie.Need-enum-told
-enum-told c = search needs
-
-enum-told-2 : tie.Need-enum-told-2
-enum-told-2 c = search needs
+    let a = c .before .before .before .args in
+    accepted-takes (c .before .before .segment-answer .ensures) (a .t1) (withSegment (a .t1) (a .segment)) (c .enum-told .given .1)
 
 returns-2 : tie.Need-returns-2
 unfolding addSegment
 returns-2 c =
-    let a = c .before .before .before .before .args in
-    let own = sym (c .before .before .segment-check .ensures) ∙ c .enum-told2 .given .1 in
-    rw (c .enum-told2 .given .1) (refused-keeps _ _ (a .study) (withSegment (a .study) (a .segment)) (segments-room ours (a .study .count) (a .segment) (c .before .before .before .if1 .left) ∙ own))
-
-mul-segment : tie.Need-mul-segment
-mul-segment c = search needs
-
-element-set-from-segment : tie.Need-element-set-from-segment
-element-set-from-segment c = search needs
-
-add-next : tie.Need-add-next
-add-next c = search needs
-
-returns-3 : tie.Need-returns-3
-unfolding addSegment withSegment
-returns-3 c =
-    let a = c .before .before .before .before .args in
-    let own = sym (c .before .before .segment-check .ensures) ∙ c .enum-told .given .1 in
-    accepted-takes _ (a .study) (withSegment (a .study) (a .segment)) (segments-room ours (a .study .count) (a .segment) (c .before .before .before .if1 .left) ∙ own)
+    let a = c .before .before .before .args in
+    refused-keeps (c .before .before .segment-answer .ensures) (a .t1) (withSegment (a .t1) (a .segment)) (c .enum-told2 .given .1)
 
 pub add-segment-spec : {M : Type 1} → statement M
 add-segment-spec =
     tie.close
     (tie.spec
-    returns
-    segment-check-requires
-    enum-told
-    enum-told-2
-    returns-2
+    (λ c κs. tt)
+    (λ c. search needs)
     mul-segment
     element-set-from-segment
-    add-next
-    returns-3)
+    add-study
+    (λ c. search needs)
+    returns
+    returns-2)

@@ -1,0 +1,27 @@
+-- Demand 3 for a study that a text gives: it counts as the list of its segments and entries.
+-- Assumes nothing.
+use mathlib.Core.Path.{_≡_, subst}
+use mathlib.Core.Bool.{true}
+use mathlib.Core.List.{List}
+use Prim.Native.Nat.{ℕ, _≤_}
+use lib.IntN.{ℤ}
+use lib.ListN.{length}
+use Rattle.steps.specs.declared.Period.{Period}
+use Rattle.steps.specs.declared.Check.the-variants.{Accepted}
+use Rattle.study.specs.declared.Study.{Study}
+use Rattle.study.specs.declared.request.Answer.{Answer}
+use Rattle.study.specs.Add.{ours}
+use Rattle.study.specs.Run.{accepted}
+use Rattle.study.specs.Request.{cellsNeeded, Answered, resultIn}
+use Rattle.study.specs.Accuracy.{hasTrains, AccurateToBare}
+use Rattle.study.proofs.Demand3.{levels-accurate, ours-roomy}
+use Rattle.text.specs.Text.{readText}
+use Rattle.text.specs.Additions.{additionsOf}
+use Rattle.text.proofs.Runs.{accepted-text-is-run}
+
+pub text-accurate : (text : List ℕ) → readText ours text .check ≡ Accepted → (p : Period) → hasTrains p (accepted ours (additionsOf ours text) .entries) ≡ true →
+    (before after : List ℤ) (r : Answer) → cellsNeeded (length (accepted ours (additionsOf ours text) .entries)) ≤ length before →
+    Answered (readText ours text .study) before after r → AccurateToBare p (accepted ours (additionsOf ours text)) (resultIn p r)
+text-accurate text ok p trains before after r enough a =
+    levels-accurate ours ours-roomy (additionsOf ours text) p trains before after r enough
+    (subst (λ (st : Study). Answered st before after r) (accepted-text-is-run ours text ok) a)
