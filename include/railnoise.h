@@ -6,7 +6,7 @@
  *
  * The function keeps no state: any number of threads may call it at the same time, each with its
  * own cells; the text may be shared.
- * Stack use: about 50 kB.
+ * Stack use: about 40 kB.
  */
 #ifndef RAILNOISE_H
 #define RAILNOISE_H
