@@ -15,3 +15,4 @@ pub mod Steps
 pub mod Marks
 pub mod Path
 pub mod Sums
+pub mod Explained

@@ -7,3 +7,4 @@ pub mod Entry
 pub mod Parts
 pub mod Path
 pub mod Readings
+pub mod Explain

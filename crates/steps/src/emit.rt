@@ -63,7 +63,7 @@ fn rolling_at(row: u64) -> i32
     ROLLINGS[(row - 1) as usize] as i32
 }
 
-fn rolling(train: Train) -> i32
+pub(crate) fn rolling(train: Train) -> i32
     requires { ⌜ TrainRanges train ⌝ }
     ensures { λ r. ⌜ r ≡ rollingTenths train ⌝ }
 {
@@ -71,7 +71,7 @@ fn rolling(train: Train) -> i32
 }
 
 // 20 log V is 10 log of the speed's square.
-fn speed_step(t: &[u64], train: Train) -> i32
+pub(crate) fn speed_step(t: &[u64], train: Train) -> i32
     requires { ⌜ TrainRanges train ⌝ }
     ensures { λ r. ⌜ Tenths (now (t .entry)) (nearest (speedFence train)) r ⌝ }
 {
@@ -79,7 +79,7 @@ fn speed_step(t: &[u64], train: Train) -> i32
     plus(312, decibel::ten_log(t, speed * speed))
 }
 
-fn vehicles_step(t: &[u64], train: Train) -> i32
+pub(crate) fn vehicles_step(t: &[u64], train: Train) -> i32
     requires { ⌜ TrainRanges train ⌝ }
     ensures { λ r. ⌜ Tenths (now (t .entry)) (nearest (vehiclesFence train)) r ⌝ }
 {
@@ -87,7 +87,7 @@ fn vehicles_step(t: &[u64], train: Train) -> i32
 }
 
 // The trains of a period.
-fn trains_in(train: Train, period: Period) -> u64
+pub(crate) fn trains_in(train: Train, period: Period) -> u64
     ensures { λ r. ⌜ r ≡ trainsIn period train ⌝ }
 {
     match period {
@@ -106,7 +106,7 @@ fn hours(period: Period) -> i32
     }
 }
 
-fn trains_step(t: &[u64], train: Train, period: Period) -> i32
+pub(crate) fn trains_step(t: &[u64], train: Train, period: Period) -> i32
     requires { ⌜ TrainRanges train × (0 < trainsIn period train) ⌝ }
     ensures { λ r. ⌜ Tenths (now (t .entry)) (nearest (trainsFence period train)) r ⌝ }
 {

@@ -2,6 +2,7 @@
 // Tables are those of `decibel`, lent. Every function is safe for any list, and exact on the tables.
 pub mod checks;
 pub mod emit;
+pub mod explain;
 pub mod propagate;
 
 ghost use mathlib.Core.Path.{_≡_};

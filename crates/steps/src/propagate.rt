@@ -19,7 +19,7 @@ use crate::Propagation;
 use crate::Segment;
 
 // Distance, by the square of the slant distance.
-fn distance_step(t: &[u64], s: Segment) -> i32
+pub(crate) fn distance_step(t: &[u64], s: Segment) -> i32
     requires { ⌜ Ranges s ⌝ }
     ensures { λ r. ⌜ Tenths (now (t .entry)) (nearest (distanceFence s)) r ⌝ }
 {
@@ -39,7 +39,7 @@ fn root_up(n: u64) -> u64
 }
 
 // Air: 3 decibels more before the division, and 3 less after it.
-fn air_step(s: Segment) -> i32
+pub(crate) fn air_step(s: Segment) -> i32
     requires { ⌜ Ranges s ⌝ }
     ensures { λ r. ⌜ Exactly (nearest (airFence s)) r ⌝ }
 {
@@ -67,7 +67,7 @@ fn wide_natural(a: i64) -> u64
 }
 
 // Angle of view: 5 decibels less, and 90 because y is in billionths.
-fn angle_step(t: &[u64], s: Segment) -> i32
+pub(crate) fn angle_step(t: &[u64], s: Segment) -> i32
     requires { ⌜ Ranges s ⌝ }
     ensures { λ r. ⌜ Tenths (now (t .entry)) (nearest (angleFence s)) r ⌝ }
 {
@@ -76,7 +76,7 @@ fn angle_step(t: &[u64], s: Segment) -> i32
 }
 
 // Opposite facades.
-fn opposite_step(s: Segment) -> i32
+pub(crate) fn opposite_step(s: Segment) -> i32
     requires { ⌜ Ranges s ⌝ }
     ensures { λ r. ⌜ Exactly (nearest (oppositeFence s)) r ⌝ }
 {
@@ -161,7 +161,7 @@ fn ground_step(t: &[u64], s: Segment) -> Propagation
 }
 
 // Ground, or the screen instead of it.
-fn path_step(t: &[u64], s: Segment) -> Propagation
+pub(crate) fn path_step(t: &[u64], s: Segment) -> Propagation
     requires { ⌜ Ranges s ⌝ }
     ensures { λ r. ⌜ PathTenths (now (t .entry)) s r ⌝ }
 {
@@ -185,7 +185,7 @@ fn facade_of(s: Segment) -> i32
 }
 
 // The facade and the readings of Chart 6(c), Table 1 and ballast.
-fn readings_of(s: Segment) -> i32
+pub(crate) fn readings_of(s: Segment) -> i32
     requires { ⌜ Ranges s ⌝ }
     ensures { λ r. ⌜ Exactly (readings s) r ⌝ }
 {
