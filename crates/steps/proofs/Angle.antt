@@ -18,6 +18,7 @@ use Rattle.decibel.specs.Sine.{sineOf, sineAt, cosineAt, series, term, arc, fac
 use Rattle.decibel.proofs.Ints.{add-is, neg-is, up-pos}
 use Rattle.decibel.proofs.Greatest.{clamp-same}
 use Rattle.decibel.proofs.Fences.{fence-low, fence-high}
+use Rattle.decibel.proofs.Table.{both-left, both-right}
 use Rattle.steps.specs.declared.Segment.{Segment}
 use Rattle.steps.specs.Step.{yOf, angleFence}
 use Rattle.steps.specs.Parts.{Ranges}
@@ -27,14 +28,6 @@ use Rattle.steps.specs.Parts.{Ranges}
 abbrev upTo : (ℕ → Bool) → ℕ → Bool
 upTo f zero = f zero
 upTo f (suc n) = both (f (suc n)) (upTo f n)
-
-both-left : (a b : Bool) → T (both a b) → T a
-both-left true b t = tt
-both-left false b t = t
-
-both-right : (a b : Bool) → T (both a b) → T b
-both-right true b t = t
-both-right false b t = absurd t
 
 pick : (f : ℕ → Bool) (n : ℕ) → T (upTo f (suc n)) → (k : ℕ) → (k ≡ suc n) ⊎ (k < suc n) → (k < suc n → T (f k)) → T (f k)
 pick f n t k (inl e) r = subst (λ (x : ℕ). T (f x)) (sym e) (both-left (f (suc n)) (upTo f n) t)

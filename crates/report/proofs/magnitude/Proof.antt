@@ -27,9 +27,6 @@ cast-result-3 c = rw (toZ-ofZ (c .before .fits .tenths)) (plus c .whole, plus c 
 returns : tie.Need-returns
 returns c = rw (back-wide (c .before .fits .tenths), toZ-ofZ (minus c .fits)) (minus c .size)
 
-returns-2 : tie.Need-returns-2
-returns-2 c = search needs
-
 pub magnitude-spec : {M : Type 1} → statement M
 magnitude-spec =
-    tie.close (tie.spec cast-result sub-result cast-result-2 cast-result-3 returns returns-2)
+    tie.close (tie.spec cast-result sub-result cast-result-2 cast-result-3 returns (λ c. search needs))

@@ -9,9 +9,6 @@ use borrow.Author.Needs.{needs}
 use Rattle.report.proofs.put_figure.Statement.{statement}
 use Rattle.report.proofs.put_figure.Tie as tie
 
-magnitude-requires : tie.Need-magnitude-requires
-magnitude-requires c κs = search needs
-
 put-sign-requires : tie.Need-put-sign-requires
 unfolding figure
 put-sign-requires c κs = rw (toZ-ofZ (c .before .before .before .fits .tenths)) (omega (arith, simp length-append at (c .before .before .before .pre)))
@@ -24,9 +21,6 @@ put-tenths-requires c κs =
     let room = simp length-append at (start .pre) in
     rw (c .before .before .before .before .before .magnitude .ensures, back) (omega (arith, rw back at (c .before .before .before .put-sign .ensures .place)))
 
-same-length : tie.Need-same-length
-same-length c = search needs
-
 returns : tie.Need-returns
 unfolding figure
 returns c =
@@ -37,4 +31,4 @@ returns c =
 pub put-figure-spec : {M : Type 1} → statement M
 put-figure-spec =
     tie.close
-    (tie.spec magnitude-requires put-sign-requires put-tenths-requires same-length returns)
+    (tie.spec (λ c κs. search needs) put-sign-requires put-tenths-requires (λ c. search needs) returns)

@@ -10,18 +10,9 @@ use borrow.Author.Needs.{needs}
 use Rattle.report.proofs.put_level.Statement.{statement}
 use Rattle.report.proofs.put_level.Tie as tie
 
-enum-told : tie.Need-enum-told
-enum-told c = search needs
-
-slice-aggregate-put : tie.Need-slice-aggregate-put
-slice-aggregate-put c = search needs
-
 put-requires : tie.Need-put-requires
 unfolding level
 put-requires c κs = omega (arith, c .before .before .before .before .before .pre)
-
-enum-known-level : tie.Need-enum-known-level
-enum-known-level c = search needs
 
 put-figure-requires : tie.Need-put-figure-requires
 unfolding level
@@ -29,15 +20,9 @@ put-figure-requires c κs =
     let f : SFits w32 (c .before .before .level .given .0 .0) = search needs in
     rw (toZ-ofZ f) (omega (arith, c .before .before .before .before .before .pre, figure-length (c .before .before .level .given .0 .0) f))
 
-same-length : tie.Need-same-length
-same-length c = search needs
-
 returns : tie.Need-returns
 unfolding level
 returns c = rw (c .before .before .before .before .before .enum-told .given .1) (record { put = c .before .before .put .ensures; few = omega arith })
-
-same-length-2 : tie.Need-same-length-2
-same-length-2 c = search needs
 
 returns-2 : tie.Need-returns-2
 unfolding level
@@ -49,12 +34,12 @@ pub put-level-spec : {M : Type 1} → statement M
 put-level-spec =
     tie.close
     (tie.spec
-    enum-told
-    slice-aggregate-put
+    (λ c. search needs)
+    (λ c. search needs)
     put-requires
-    enum-known-level
+    (λ c. search needs)
     put-figure-requires
-    same-length
+    (λ c. search needs)
     returns
-    same-length-2
+    (λ c. search needs)
     returns-2)

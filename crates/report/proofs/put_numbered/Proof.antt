@@ -13,11 +13,8 @@ put-requires c κs = omega (arith, simp length-append at (c .before .before .bef
 put-decimal-requires : tie.Need-put-decimal-requires
 put-decimal-requires c κs = omega (arith, simp length-append at (c .before .before .before .before .before .before .before .pre))
 
-same-length : tie.Need-same-length
-same-length c = search needs
-
 returns : tie.Need-returns
 returns c = put-then (omega (arith, c .before .before .before .before .before .before .before .before .before .before .pre)) (c .before .before .before .before .before .before .put .ensures) (c .before .before .put-decimal .ensures)
 
 pub put-numbered-spec : {M : Type 1} → statement M
-put-numbered-spec = tie.close (tie.spec put-requires put-decimal-requires same-length returns)
+put-numbered-spec = tie.close (tie.spec put-requires put-decimal-requires (λ c. search needs) returns)

@@ -22,12 +22,6 @@ close-length c =
 put-level-requires : tie.Need-put-level-requires
 put-level-requires c κs = omega (arith, c .before .before .pre)
 
-slice-aggregate-put-numbered : tie.Need-slice-aggregate-put-numbered
-slice-aggregate-put-numbered c = search needs
-
-cast-put-numbered : tie.Need-cast-put-numbered
-cast-put-numbered c = search needs
-
 put-numbered-requires : tie.Need-put-numbered-requires
 put-numbered-requires c κs = omega (arith, c .before .before .before .before .before .before .before .before .pre, close-length c)
 
@@ -36,9 +30,6 @@ put-verdict-requires c κs =
     let counted = c .before .before .before .before in
     let start = counted .before .before .before .before .before .before .before .before in
     omega (arith, start .pre, close-length counted, verdict-length (start .args .result .met))
-
-same-length : tie.Need-same-length
-same-length c = search needs
 
 returns : tie.Need-returns
 unfolding outcome
@@ -54,9 +45,9 @@ put-outcome-spec =
     tie.close
     (tie.spec
     put-level-requires
-    slice-aggregate-put-numbered
-    cast-put-numbered
+    (λ c. search needs)
+    (λ c. search needs)
     put-numbered-requires
     put-verdict-requires
-    same-length
+    (λ c. search needs)
     returns)

@@ -13,16 +13,10 @@ put-requires c κs = omega (arith, c .before .before .before .pre .0, c .before 
 put-outcome-requires : tie.Need-put-outcome-requires
 put-outcome-requires c κs = omega (arith, c .before .before .before .before .before .before .before .pre .0, c .before .before .before .before .before .before .before .pre .1)
 
-slice-aggregate-put : tie.Need-slice-aggregate-put
-slice-aggregate-put c = search needs
-
 put-requires-2 : tie.Need-put-requires-2
 put-requires-2 c κs =
     let start = c .before .before .before .before .before .before .before .before .before .before .before .before in
     omega (arith, start .pre .0, start .pre .1, c .before .before .before .before .put-outcome .ensures .few)
-
-same-length : tie.Need-same-length
-same-length c = search needs
 
 returns : tie.Need-returns
 returns c =
@@ -38,7 +32,7 @@ put-period-spec =
     (tie.spec
     put-requires
     put-outcome-requires
-    slice-aggregate-put
+    (λ c. search needs)
     put-requires-2
-    same-length
+    (λ c. search needs)
     returns)

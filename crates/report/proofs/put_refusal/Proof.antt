@@ -17,36 +17,18 @@ number-length c = decimal-length 9 (c .number .result) (omega (arith, c .number 
 line-length : (c : tie.Start) → length (decimal (c .args .line)) ≤ 20
 line-length c = decimal-length 19 (c .args .line) (omega (arith, c .fits .line))
 
-number-requires : tie.Need-number-requires
-number-requires c κs = search needs
-
-slice-aggregate-put-numbered : tie.Need-slice-aggregate-put-numbered
-slice-aggregate-put-numbered c = search needs
-
-cast-put-numbered : tie.Need-cast-put-numbered
-cast-put-numbered c = search needs
-
 put-numbered-requires : tie.Need-put-numbered-requires
 put-numbered-requires c κs = omega (arith, c .before .before .before .before .pre, number-length (c .before .before))
-
-slice-aggregate-put-numbered-2 : tie.Need-slice-aggregate-put-numbered-2
-slice-aggregate-put-numbered-2 c = search needs
 
 put-numbered-requires-2 : tie.Need-put-numbered-requires-2
 put-numbered-requires-2 c κs =
     let numbered = c .before .before .before .before .before .before .before in
     omega (arith, numbered .before .before .pre, number-length numbered, line-length (numbered .before .before))
 
-slice-aggregate-put : tie.Need-slice-aggregate-put
-slice-aggregate-put c = search needs
-
 put-requires : tie.Need-put-requires
 put-requires c κs =
     let numbered = c .before .before .before .before .before .before .before .before .before .before .before .before in
     omega (arith, numbered .before .before .pre, number-length numbered, line-length (numbered .before .before))
-
-same-length : tie.Need-same-length
-same-length c = search needs
 
 returns : tie.Need-returns
 unfolding refusalLine
@@ -58,13 +40,13 @@ pub put-refusal-spec : {M : Type 1} → statement M
 put-refusal-spec =
     tie.close
     (tie.spec
-    number-requires
-    slice-aggregate-put-numbered
-    cast-put-numbered
+    (λ c κs. search needs)
+    (λ c. search needs)
+    (λ c. search needs)
     put-numbered-requires
-    slice-aggregate-put-numbered-2
+    (λ c. search needs)
     put-numbered-requires-2
-    slice-aggregate-put
+    (λ c. search needs)
     put-requires
-    same-length
+    (λ c. search needs)
     returns)

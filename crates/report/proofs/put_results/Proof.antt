@@ -7,26 +7,14 @@ use borrow.Author.Needs.{needs}
 use Rattle.report.proofs.put_results.Statement.{statement}
 use Rattle.report.proofs.put_results.Tie as tie
 
-slice-aggregate-put : tie.Need-slice-aggregate-put
-slice-aggregate-put c = search needs
-
 put-requires : tie.Need-put-requires
 put-requires c κs = omega (arith, c .before .before .before .pre)
-
-slice-aggregate-put-period : tie.Need-slice-aggregate-put-period
-slice-aggregate-put-period c = search needs
 
 put-period-requires : tie.Need-put-period-requires
 put-period-requires c κs = (omega arith, omega (arith, c .before .before .before .before .before .before .before .before .pre))
 
-slice-aggregate-put-period-2 : tie.Need-slice-aggregate-put-period-2
-slice-aggregate-put-period-2 c = search needs
-
 put-period-requires-2 : tie.Need-put-period-requires-2
 put-period-requires-2 c κs = (omega arith, omega (arith, c .before .before .before .before .before .before .before .before .before .before .before .before .before .pre, c .before .before .before .before .put-period .ensures .few))
-
-same-length : tie.Need-same-length
-same-length c = search needs
 
 returns : tie.Need-returns
 unfolding results
@@ -36,11 +24,11 @@ pub put-results-spec : {M : Type 1} → statement M
 put-results-spec =
     tie.close
     (tie.spec
-    slice-aggregate-put
+    (λ c. search needs)
     put-requires
-    slice-aggregate-put-period
+    (λ c. search needs)
     put-period-requires
-    slice-aggregate-put-period-2
+    (λ c. search needs)
     put-period-requires-2
-    same-length
+    (λ c. search needs)
     returns)

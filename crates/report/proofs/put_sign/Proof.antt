@@ -7,16 +7,10 @@ use borrow.Author.Needs.{needs}
 use Rattle.report.proofs.put_sign.Statement.{statement}
 use Rattle.report.proofs.put_sign.Tie as tie
 
-slice-aggregate-put : tie.Need-slice-aggregate-put
-slice-aggregate-put c = search needs
-
 put-requires : tie.Need-put-requires
 put-requires c κs =
     let start = c .before .before .before .before in
     rw (sign-below (start .args .tenths) (rw (toZ-ofZ (start .fits .tenths)) at (c .before .before .if1 .taken))) at (start .pre)
-
-same-length : tie.Need-same-length
-same-length c = search needs
 
 returns : tie.Need-returns
 returns c =
@@ -29,4 +23,4 @@ returns-2 c =
     rw (sign-not-below (start .args .tenths) (rw (toZ-ofZ (start .fits .tenths)) at (c .if1 .left))) (put-nothing (start .args .out .now) (start .args .at))
 
 pub put-sign-spec : {M : Type 1} → statement M
-put-sign-spec = tie.close (tie.spec slice-aggregate-put put-requires same-length returns returns-2)
+put-sign-spec = tie.close (tie.spec (λ c. search needs) put-requires (λ c. search needs) returns returns-2)

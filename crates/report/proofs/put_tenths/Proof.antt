@@ -12,15 +12,9 @@ put-decimal-requires : tie.Need-put-decimal-requires
 unfolding withTenths
 put-decimal-requires c κs = omega (arith, simp length-append at (c .before .before .pre))
 
-slice-aggregate-put-numbered : tie.Need-slice-aggregate-put-numbered
-slice-aggregate-put-numbered c = search needs
-
 put-numbered-requires : tie.Need-put-numbered-requires
 unfolding withTenths
 put-numbered-requires c κs = omega (arith, simp length-append at (c .before .before .before .before .before .before .before .pre))
-
-same-length : tie.Need-same-length
-same-length c = search needs
 
 returns : tie.Need-returns
 unfolding withTenths
@@ -31,7 +25,7 @@ put-tenths-spec =
     tie.close
     (tie.spec
     put-decimal-requires
-    slice-aggregate-put-numbered
+    (λ c. search needs)
     put-numbered-requires
-    same-length
+    (λ c. search needs)
     returns)

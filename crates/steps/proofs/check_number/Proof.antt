@@ -6,15 +6,6 @@ use Rattle.steps.specs.Refusal.{checkNumber}
 use Rattle.steps.proofs.check_number.Statement.{statement}
 use Rattle.steps.proofs.check_number.Tie as tie
 
-enum-told : tie.Need-enum-told
-enum-told c = search needs
-
-enum-known-check : tie.Need-enum-known-check
-enum-known-check c = search needs
-
-number-requires : tie.Need-number-requires
-number-requires c κs = search needs
-
 returns : tie.Need-returns
 unfolding checkNumber
 returns c = sym (ap checkNumber (c .enum-told .given .1))
@@ -24,4 +15,4 @@ unfolding checkNumber
 returns-2 c = c .number .ensures ∙ ap checkNumber (sym (c .before .before .check .given .1))
 
 pub check-number-spec : {M : Type 1} → statement M
-check-number-spec = tie.close (tie.spec enum-told enum-known-check number-requires returns returns-2)
+check-number-spec = tie.close (tie.spec (λ c. search needs) (λ c. search needs) (λ c κs. search needs) returns returns-2)

@@ -7,9 +7,6 @@ use Rattle.steps.proofs.Lengths.{third-square, third-fits, length-by}
 use Rattle.steps.proofs.direct.Statement.{statement}
 use Rattle.steps.proofs.direct.Tie as tie
 
-slant-of-requires : tie.Need-slant-of-requires
-slant-of-requires c κs = search needs
-
 length-of-requires : tie.Need-length-of-requires
 length-of-requires c κs =
     let p = c .before .before .before .pre in
@@ -19,4 +16,4 @@ returns : tie.Need-returns
 returns c = length-by (third-square (c .before .before .before .before .pre) (c .before .slant-of .ensures)) (c .length-of .ensures)
 
 pub direct-spec : {M : Type 1} → statement M
-direct-spec = tie.close (tie.spec slant-of-requires length-of-requires returns)
+direct-spec = tie.close (tie.spec (λ c κs. search needs) length-of-requires returns)

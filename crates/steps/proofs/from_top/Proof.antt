@@ -13,9 +13,6 @@ less-requires c κs = depth-asks (c .before .before .pre)
 less-requires-2 : tie.Need-less-requires-2
 less-requires-2 c κs = rise-asks (c .before .before .before .before .before .pre)
 
-slant-of-requires : tie.Need-slant-of-requires
-slant-of-requires c κs = search needs
-
 length-of-requires : tie.Need-length-of-requires
 length-of-requires c κs =
     let y = c .before in
@@ -30,4 +27,4 @@ returns c =
     length-by (second-square (x .before .before .before .pre) (x .less .ok) (y .less2 .ok) (x .less .ensures) (y .less2 .ensures) (c .before .slant-of .ensures)) (c .length-of .ensures)
 
 pub from-top-spec : {M : Type 1} → statement M
-from-top-spec = tie.close (tie.spec less-requires less-requires-2 slant-of-requires length-of-requires returns)
+from-top-spec = tie.close (tie.spec less-requires less-requires-2 (λ c κs. search needs) length-of-requires returns)

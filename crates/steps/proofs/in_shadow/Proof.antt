@@ -6,12 +6,6 @@ use Rattle.steps.specs.Geometry.{inShadow}
 use Rattle.steps.proofs.in_shadow.Statement.{statement}
 use Rattle.steps.proofs.in_shadow.Tie as tie
 
-product-requires : tie.Need-product-requires
-product-requires c κs = search needs
-
-product-requires-2 : tie.Need-product-requires-2
-product-requires-2 c κs = search needs
-
 returns : tie.Need-returns
 unfolding inShadow
 returns c =
@@ -22,4 +16,4 @@ returns c =
     (simp (first .product .ensures, c .product2 .ensures, back (s .distance) (g .0 .1), back (s .height) (g .1 .0 .1), back (s .setback) (g .1 .1 .1 .1 .1 .1 .1 .0 .1), back (s .top) (g .1 .1 .1 .1 .1 .1 .1 .1 .0 .1)))
 
 pub in-shadow-spec : {M : Type 1} → statement M
-in-shadow-spec = tie.close (tie.spec product-requires product-requires-2 returns)
+in-shadow-spec = tie.close (tie.spec (λ c κs. search needs) (λ c κs. search needs) returns)

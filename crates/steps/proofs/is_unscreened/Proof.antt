@@ -6,12 +6,9 @@ use Rattle.steps.proofs.Read.{read}
 use Rattle.steps.proofs.is_unscreened.Statement.{statement}
 use Rattle.steps.proofs.is_unscreened.Tie as tie
 
-in-range-requires : tie.Need-in-range-requires
-in-range-requires c κs = search needs
-
 returns : tie.Need-returns
 unfolding unscreened
 returns c = simp (c .in-range .ensures, read (c .before .before .args .s) (c .before .struct-told .given) .screen)
 
 pub is-unscreened-spec : {M : Type 1} → statement M
-is-unscreened-spec = tie.close (tie.spec in-range-requires returns)
+is-unscreened-spec = tie.close (tie.spec (λ c κs. search needs) returns)

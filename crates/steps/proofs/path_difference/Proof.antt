@@ -6,18 +6,6 @@ use Rattle.steps.proofs.Lengths.{path-is}
 use Rattle.steps.proofs.path_difference.Statement.{statement}
 use Rattle.steps.proofs.path_difference.Tie as tie
 
-to-top-requires : tie.Need-to-top-requires
-to-top-requires c κs = search needs
-
-from-top-requires : tie.Need-from-top-requires
-from-top-requires c κs = search needs
-
-add-over : tie.Need-add-over
-add-over c = search needs
-
-direct-requires : tie.Need-direct-requires
-direct-requires c κs = search needs
-
 returns : tie.Need-returns
 returns c =
     let d = c .before in
@@ -33,4 +21,4 @@ returns-2 c =
     path-is (t .before .args .s) (t .to-top .ensures) (f .from-top .ensures) (d .direct .ensures)
 
 pub path-difference-spec : {M : Type 1} → statement M
-path-difference-spec = tie.close (tie.spec to-top-requires from-top-requires add-over direct-requires returns returns-2)
+path-difference-spec = tie.close (tie.spec (λ c κs. search needs) (λ c κs. search needs) (λ c. search needs) (λ c κs. search needs) returns returns-2)

@@ -8,15 +8,6 @@ use Rattle.steps.specs.Geometry.{squared, slant}
 use Rattle.steps.proofs.slant_of.Statement.{statement}
 use Rattle.steps.proofs.slant_of.Tie as tie
 
-square-requires : tie.Need-square-requires
-square-requires c κs = search needs
-
-square-requires-2 : tie.Need-square-requires-2
-square-requires-2 c κs = search needs
-
-add-result : tie.Need-add-result
-add-result c = search needs
-
 returns : tie.Need-returns
 unfolding slant
 returns c =
@@ -24,4 +15,4 @@ returns c =
     ap₂ _+_ (c .before .square .ensures .is ∙ ap squared (toZ-ofZ (b .fits .x))) (c .square2 .ensures .is ∙ ap squared (toZ-ofZ (b .fits .y)))
 
 pub slant-of-spec : {M : Type 1} → statement M
-slant-of-spec = tie.close (tie.spec square-requires square-requires-2 add-result returns)
+slant-of-spec = tie.close (tie.spec (λ c κs. search needs) (λ c κs. search needs) (λ c. search needs) returns)

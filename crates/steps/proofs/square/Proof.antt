@@ -9,9 +9,6 @@ use Rattle.steps.proofs.Lengths.{square-cast, square-of}
 use Rattle.steps.proofs.square.Statement.{statement}
 use Rattle.steps.proofs.square.Tie as tie
 
-product-requires : tie.Need-product-requires
-product-requires c κs = search needs
-
 cast-result : tie.Need-cast-result
 cast-result c =
     let a = toZ-ofZ (c .before .fits .a) in
@@ -23,4 +20,4 @@ returns c =
     square-of (c .before .args .a) (c .before .fits .a .sfits) (back64 (c .product .result) (c .product .ok) ∙ c .product .ensures ∙ ap₂ _*ℤ_ a a)
 
 pub square-spec : {M : Type 1} → statement M
-square-spec = tie.close (tie.spec product-requires cast-result returns)
+square-spec = tie.close (tie.spec (λ c κs. search needs) cast-result returns)

@@ -7,9 +7,6 @@ use Rattle.steps.proofs.Lengths.{first-square, first-fits, length-by}
 use Rattle.steps.proofs.to_top.Statement.{statement}
 use Rattle.steps.proofs.to_top.Tie as tie
 
-slant-of-requires : tie.Need-slant-of-requires
-slant-of-requires c κs = search needs
-
 length-of-requires : tie.Need-length-of-requires
 length-of-requires c κs =
     let p = c .before .before .before .pre in
@@ -19,4 +16,4 @@ returns : tie.Need-returns
 returns c = length-by (first-square (c .before .before .before .before .pre) (c .before .slant-of .ensures)) (c .length-of .ensures)
 
 pub to-top-spec : {M : Type 1} → statement M
-to-top-spec = tie.close (tie.spec slant-of-requires length-of-requires returns)
+to-top-spec = tie.close (tie.spec (λ c κs. search needs) length-of-requires returns)

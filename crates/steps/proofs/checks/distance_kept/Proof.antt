@@ -6,12 +6,9 @@ use Rattle.steps.proofs.Read.{read}
 use Rattle.steps.proofs.checks.distance_kept.Statement.{statement}
 use Rattle.steps.proofs.checks.distance_kept.Tie as tie
 
-in-range-requires : tie.Need-in-range-requires
-in-range-requires c κs = search needs
-
 returns : tie.Need-returns
 unfolding distanceKept
 returns c = simp (c .in-range .ensures, read (c .before .before .args .s) (c .before .struct-told .given) .distance)
 
 pub distance-kept-spec : {M : Type 1} → statement M
-distance-kept-spec = tie.close (tie.spec in-range-requires returns)
+distance-kept-spec = tie.close (tie.spec (λ c κs. search needs) returns)

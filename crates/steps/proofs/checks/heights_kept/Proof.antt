@@ -6,12 +6,6 @@ use Rattle.steps.proofs.Read.{read}
 use Rattle.steps.proofs.checks.heights_kept.Statement.{statement}
 use Rattle.steps.proofs.checks.heights_kept.Tie as tie
 
-in-range-requires : tie.Need-in-range-requires
-in-range-requires c κs = search needs
-
-in-range-requires-2 : tie.Need-in-range-requires-2
-in-range-requires-2 c κs = search needs
-
 returns : tie.Need-returns
 unfolding heightsKept
 returns c =
@@ -20,4 +14,4 @@ returns c =
     simp (first .in-range .ensures, c .in-range2 .ensures, f .height, f .mean)
 
 pub heights-kept-spec : {M : Type 1} → statement M
-heights-kept-spec = tie.close (tie.spec in-range-requires in-range-requires-2 returns)
+heights-kept-spec = tie.close (tie.spec (λ c κs. search needs) (λ c κs. search needs) returns)

@@ -7,18 +7,6 @@ use Rattle.steps.proofs.Read.{read}
 use Rattle.steps.proofs.checks.screened_kept.Statement.{statement}
 use Rattle.steps.proofs.checks.screened_kept.Tie as tie
 
-stands-between-requires : tie.Need-stands-between-requires
-stands-between-requires c κs = search needs
-
-in-range-requires : tie.Need-in-range-requires
-in-range-requires c κs = search needs
-
-in-range-requires-2 : tie.Need-in-range-requires-2
-in-range-requires-2 c κs = search needs
-
-in-range-requires-3 : tie.Need-in-range-requires-3
-in-range-requires-3 c κs = search needs
-
 returns : tie.Need-returns
 unfolding screenedKept
 returns c =
@@ -30,4 +18,4 @@ returns c =
     simp (between .stands-between .ensures, first .in-range .ensures, second .in-range2 .ensures, c .in-range3 .ensures, f .top, f .chart, f .ballast, toZ-ofZ (start .fits .most))
 
 pub screened-kept-spec : {M : Type 1} → statement M
-screened-kept-spec = tie.close (tie.spec stands-between-requires in-range-requires in-range-requires-2 in-range-requires-3 returns)
+screened-kept-spec = tie.close (tie.spec (λ c κs. search needs) (λ c κs. search needs) (λ c κs. search needs) (λ c κs. search needs) returns)

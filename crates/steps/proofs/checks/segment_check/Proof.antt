@@ -7,26 +7,8 @@ use Rattle.steps.proofs.Chain.{range-refused, range-accepted}
 use Rattle.steps.proofs.checks.segment_check.Statement.{statement}
 use Rattle.steps.proofs.checks.segment_check.Tie as tie
 
-range-check-requires : tie.Need-range-check-requires
-range-check-requires c κs = search needs
-
-enum-known-refusal : tie.Need-enum-known-refusal
-enum-known-refusal c = search needs
-
-enum-told : tie.Need-enum-told
-enum-told c = search needs
-
 shadow-kept-requires : tie.Need-shadow-kept-requires
 shadow-kept-requires c κs = placed (c .before .before .before .args .s) (sym (c .before .before .range-check .ensures) ∙ c .enum-told .given .1)
-
-readings-kept-requires : tie.Need-readings-kept-requires
-readings-kept-requires c κs = search needs
-
-unless-requires : tie.Need-unless-requires
-unless-requires c κs = search needs
-
-unless-requires-2 : tie.Need-unless-requires-2
-unless-requires-2 c κs = search needs
 
 returns : tie.Need-returns
 returns c = range-refused (c .before .before .before .before .args .s) (sym (c .before .before .before .range-check .ensures) ∙ c .before .refusal .given .1)
@@ -40,4 +22,4 @@ returns-2 c =
     simp (c .unless2 .ensures, c .before .unless .ensures, readings .readings-kept .ensures, shadow .shadow-kept .ensures) (range-accepted (start .before .args .s) (sym (start .range-check .ensures) ∙ told .enum-told .given .1))
 
 pub segment-check-spec : {M : Type 1} → statement M
-segment-check-spec = tie.close (tie.spec range-check-requires enum-known-refusal enum-told shadow-kept-requires readings-kept-requires unless-requires unless-requires-2 returns returns-2)
+segment-check-spec = tie.close (tie.spec (λ c κs. search needs) (λ c. search needs) (λ c. search needs) shadow-kept-requires (λ c κs. search needs) (λ c κs. search needs) (λ c κs. search needs) returns returns-2)

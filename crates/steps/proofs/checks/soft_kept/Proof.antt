@@ -6,12 +6,9 @@ use Rattle.steps.proofs.Read.{read}
 use Rattle.steps.proofs.checks.soft_kept.Statement.{statement}
 use Rattle.steps.proofs.checks.soft_kept.Tie as tie
 
-in-range-requires : tie.Need-in-range-requires
-in-range-requires c κs = search needs
-
 returns : tie.Need-returns
 unfolding softKept
 returns c = simp (c .in-range .ensures, read (c .before .before .args .s) (c .before .struct-told .given) .soft)
 
 pub soft-kept-spec : {M : Type 1} → statement M
-soft-kept-spec = tie.close (tie.spec in-range-requires returns)
+soft-kept-spec = tie.close (tie.spec (λ c κs. search needs) returns)

@@ -6,12 +6,6 @@ use Rattle.steps.proofs.Read.{read}
 use Rattle.steps.proofs.checks.stands_between.Statement.{statement}
 use Rattle.steps.proofs.checks.stands_between.Tie as tie
 
-plus-hundred-requires : tie.Need-plus-hundred-requires
-plus-hundred-requires c κs = search needs
-
-wide-requires : tie.Need-wide-requires
-wide-requires c κs = search needs
-
 returns : tie.Need-returns
 returns c =
     let sum = c .before .before in
@@ -20,4 +14,4 @@ returns c =
     (simp (sum .plus-hundred .ensures, c .wide .ensures, f .setback, f .distance))
 
 pub stands-between-spec : {M : Type 1} → statement M
-stands-between-spec = tie.close (tie.spec plus-hundred-requires wide-requires returns)
+stands-between-spec = tie.close (tie.spec (λ c κs. search needs) (λ c κs. search needs) returns)

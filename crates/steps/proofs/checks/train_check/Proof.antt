@@ -6,30 +6,6 @@ use Rattle.steps.proofs.Read.{train-read}
 use Rattle.steps.proofs.checks.train_check.Statement.{statement}
 use Rattle.steps.proofs.checks.train_check.Tie as tie
 
-in-range-requires : tie.Need-in-range-requires
-in-range-requires c κs = search needs
-
-in-range-requires-2 : tie.Need-in-range-requires-2
-in-range-requires-2 c κs = search needs
-
-in-range-requires-3 : tie.Need-in-range-requires-3
-in-range-requires-3 c κs = search needs
-
-trains-kept-requires : tie.Need-trains-kept-requires
-trains-kept-requires c κs = search needs
-
-unless-requires : tie.Need-unless-requires
-unless-requires c κs = search needs
-
-unless-requires-2 : tie.Need-unless-requires-2
-unless-requires-2 c κs = search needs
-
-unless-requires-3 : tie.Need-unless-requires-3
-unless-requires-3 c κs = search needs
-
-unless-requires-4 : tie.Need-unless-requires-4
-unless-requires-4 c κs = search needs
-
 returns : tie.Need-returns
 unfolding trainCheck rowKept speedKept vehiclesKept
 returns c =
@@ -44,4 +20,4 @@ returns c =
     simp (c .unless4 .ensures, second .unless3 .ensures, third .unless2 .ensures, last .unless .ensures, trains .trains-kept .ensures, vehicles .in-range3 .ensures, speed .in-range2 .ensures, row .in-range .ensures, f .row, f .speed, f .vehicles)
 
 pub train-check-spec : {M : Type 1} → statement M
-train-check-spec = tie.close (tie.spec in-range-requires in-range-requires-2 in-range-requires-3 trains-kept-requires unless-requires unless-requires-2 unless-requires-3 unless-requires-4 returns)
+train-check-spec = tie.close (tie.spec (λ c κs. search needs) (λ c κs. search needs) (λ c κs. search needs) (λ c κs. search needs) (λ c κs. search needs) (λ c κs. search needs) (λ c κs. search needs) (λ c κs. search needs) returns)

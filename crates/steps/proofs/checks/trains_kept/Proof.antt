@@ -6,12 +6,6 @@ use Rattle.steps.proofs.Read.{train-read}
 use Rattle.steps.proofs.checks.trains_kept.Statement.{statement}
 use Rattle.steps.proofs.checks.trains_kept.Tie as tie
 
-in-range-requires : tie.Need-in-range-requires
-in-range-requires c κs = search needs
-
-in-range-requires-2 : tie.Need-in-range-requires-2
-in-range-requires-2 c κs = search needs
-
 returns : tie.Need-returns
 unfolding trainsKept
 returns c =
@@ -20,4 +14,4 @@ returns c =
     simp (first .in-range .ensures, c .in-range2 .ensures, f .day, f .night)
 
 pub trains-kept-spec : {M : Type 1} → statement M
-trains-kept-spec = tie.close (tie.spec in-range-requires in-range-requires-2 returns)
+trains-kept-spec = tie.close (tie.spec (λ c κs. search needs) (λ c κs. search needs) returns)

@@ -6,15 +6,6 @@ use Rattle.steps.proofs.Read.{read}
 use Rattle.steps.proofs.checks.unscreened_kept.Statement.{statement}
 use Rattle.steps.proofs.checks.unscreened_kept.Tie as tie
 
-in-range-requires : tie.Need-in-range-requires
-in-range-requires c κs = search needs
-
-in-range-requires-2 : tie.Need-in-range-requires-2
-in-range-requires-2 c κs = search needs
-
-in-range-requires-3 : tie.Need-in-range-requires-3
-in-range-requires-3 c κs = search needs
-
 returns : tie.Need-returns
 unfolding unscreenedKept
 returns c =
@@ -24,4 +15,4 @@ returns c =
     simp (first .in-range .ensures, second .in-range2 .ensures, c .in-range3 .ensures, f .setback, f .top, f .chart)
 
 pub unscreened-kept-spec : {M : Type 1} → statement M
-unscreened-kept-spec = tie.close (tie.spec in-range-requires in-range-requires-2 in-range-requires-3 returns)
+unscreened-kept-spec = tie.close (tie.spec (λ c κs. search needs) (λ c κs. search needs) (λ c κs. search needs) returns)

@@ -8,18 +8,6 @@ use Rattle.steps.proofs.Emission.{refused-silent, none-silent, some-emi
 use Rattle.steps.proofs.emit.emission_of.Statement.{statement}
 use Rattle.steps.proofs.emit.emission_of.Tie as tie
 
-train-check-requires : tie.Need-train-check-requires
-train-check-requires c κs = search needs
-
-enum-told : tie.Need-enum-told
-enum-told c = search needs
-
-enum-told-2 : tie.Need-enum-told-2
-enum-told-2 c = search needs
-
-trains-in-requires : tie.Need-trains-in-requires
-trains-in-requires c κs = search needs
-
 returns : tie.Need-returns
 returns c =
     let told = c .before .before in
@@ -49,4 +37,4 @@ returns-3 c =
     some-emits (start .args .period) (start .args .train) (sym (check .train-check .ensures) ∙ told .enum-told2 .given .1) (omega (arith, branch .if1 .left, branch .before .trains-in .ensures)) (c .train-level .ensures)
 
 pub emission-of-spec : {M : Type 1} → statement M
-emission-of-spec = tie.close (tie.spec train-check-requires enum-told enum-told-2 trains-in-requires returns train-level-requires returns-2 returns-3)
+emission-of-spec = tie.close (tie.spec (λ c κs. search needs) (λ c. search needs) (λ c. search needs) (λ c κs. search needs) returns train-level-requires returns-2 returns-3)

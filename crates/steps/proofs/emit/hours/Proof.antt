@@ -6,12 +6,6 @@ use Rattle.steps.specs.Step.{hoursTenths}
 use Rattle.steps.proofs.emit.hours.Statement.{statement}
 use Rattle.steps.proofs.emit.hours.Tie as tie
 
-enum-told : tie.Need-enum-told
-enum-told c = search needs
-
-enum-told-2 : tie.Need-enum-told-2
-enum-told-2 c = search needs
-
 returns : tie.Need-returns
 unfolding hoursTenths
 returns c = rw (c .enum-told .given .1) refl
@@ -21,4 +15,4 @@ unfolding hoursTenths
 returns-2 c = rw (c .enum-told2 .given .1) refl
 
 pub hours-spec : {M : Type 1} → statement M
-hours-spec = tie.close (tie.spec enum-told enum-told-2 returns returns-2)
+hours-spec = tie.close (tie.spec (λ c. search needs) (λ c. search needs) returns returns-2)

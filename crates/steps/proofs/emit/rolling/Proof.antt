@@ -13,9 +13,6 @@ use Rattle.steps.proofs.Read.{train-read}
 use Rattle.steps.proofs.emit.rolling.Statement.{statement}
 use Rattle.steps.proofs.emit.rolling.Tie as tie
 
-natural-requires : tie.Need-natural-requires
-natural-requires c κs = search needs
-
 rolling-at-requires : tie.Need-rolling-at-requires
 rolling-at-requires c κs =
     let start = c .before .before in
@@ -31,4 +28,4 @@ returns c =
     back (c .rolling-at .result) (c .rolling-at .ok) ∙ c .rolling-at .ensures ∙ ap (λ (k : ℕ). pos (getD rollings (k - 1) 0)) e
 
 pub rolling-spec : {M : Type 1} → statement M
-rolling-spec = tie.close (tie.spec natural-requires rolling-at-requires returns)
+rolling-spec = tie.close (tie.spec (λ c κs. search needs) rolling-at-requires returns)

@@ -7,15 +7,6 @@ use Rattle.steps.proofs.Emission.{rolling-fits}
 use Rattle.steps.proofs.emit.rolling_at.Statement.{statement}
 use Rattle.steps.proofs.emit.rolling_at.Tie as tie
 
-sub-result : tie.Need-sub-result
-sub-result c = search needs
-
-mul-result : tie.Need-mul-result
-mul-result c = search needs
-
-array-read-result : tie.Need-array-read-result
-array-read-result c = search needs
-
 cast-result : tie.Need-cast-result
 unfolding rollings
 cast-result c = rolling-fits (c .args .row) (c .pre .0) (c .pre .1)
@@ -25,4 +16,4 @@ unfolding rollings
 returns c = toZ-ofZ (rolling-fits (c .args .row) (c .pre .0) (c .pre .1))
 
 pub rolling-at-spec : {M : Type 1} → statement M
-rolling-at-spec = tie.close (tie.spec sub-result mul-result array-read-result cast-result returns)
+rolling-at-spec = tie.close (tie.spec (λ c. search needs) (λ c. search needs) (λ c. search needs) cast-result returns)

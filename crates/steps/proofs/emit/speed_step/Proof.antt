@@ -13,18 +13,12 @@ use Rattle.steps.proofs.Emission.{speed-is}
 use Rattle.steps.proofs.emit.speed_step.Statement.{statement}
 use Rattle.steps.proofs.emit.speed_step.Tie as tie
 
-natural-requires : tie.Need-natural-requires
-natural-requires c κs = search needs
-
 mul-ten-log : tie.Need-mul-ten-log
 mul-ten-log c =
     let start = c .before .before .before in
     let e = c .natural .ensures ∙ ap up (train-read (start .args .train) (c .before .struct-told .given) .speed) in
     let h : c .natural .result ≤ 300 = omega (arith, start .pre .speed .most) in
     omega (arith, mul-le-mul h h)
-
-ten-log-requires : tie.Need-ten-log-requires
-ten-log-requires c κs = search needs
 
 plus-requires : tie.Need-plus-requires
 plus-requires c κs = summands (below-whole 312) (below-answer (c .ten-log .ensures)) (lit≤ tt)
@@ -37,4 +31,4 @@ returns c =
     tenths-read (speed-is (start .args .train) (start .pre) e (c .before .ten-log .ensures) (c .plus .ensures))
 
 pub speed-step-spec : {M : Type 1} → statement M
-speed-step-spec = tie.close (tie.spec natural-requires mul-ten-log ten-log-requires plus-requires returns)
+speed-step-spec = tie.close (tie.spec (λ c κs. search needs) mul-ten-log (λ c κs. search needs) plus-requires returns)

@@ -7,22 +7,10 @@ use Rattle.steps.proofs.Emission.{rolling-below, vehicles-asks, speed-a
 use Rattle.steps.proofs.emit.train_level.Statement.{statement}
 use Rattle.steps.proofs.emit.train_level.Tie as tie
 
-trains-step-requires : tie.Need-trains-step-requires
-trains-step-requires c κs = search needs
-
-rolling-requires : tie.Need-rolling-requires
-rolling-requires c κs = search needs
-
 plus-requires : tie.Need-plus-requires
 plus-requires c κs =
     let start = c .before .before .before in
     summands (c .before .trains-step .ensures .small) (rolling-below (start .args .train) (start .pre .0) (c .rolling .ensures)) (lit≤ tt)
-
-speed-step-requires : tie.Need-speed-step-requires
-speed-step-requires c κs = search needs
-
-vehicles-step-requires : tie.Need-vehicles-step-requires
-vehicles-step-requires c κs = search needs
 
 plus-requires-2 : tie.Need-plus-requires-2
 plus-requires-2 c κs =
@@ -45,4 +33,4 @@ returns c =
     train-is (s .args .period) (s .args .train) (v .before .speed-step .ensures) (v .vehicles-step .ensures) (row .before .trains-step .ensures) (s .pre .0) (row .rolling .ensures) (v .before .before .plus .ensures) (c .before .plus2 .ensures) (c .plus3 .ensures)
 
 pub train-level-spec : {M : Type 1} → statement M
-train-level-spec = tie.close (tie.spec trains-step-requires rolling-requires plus-requires speed-step-requires vehicles-step-requires plus-requires-2 plus-requires-3 returns)
+train-level-spec = tie.close (tie.spec (λ c κs. search needs) (λ c κs. search needs) plus-requires (λ c κs. search needs) (λ c κs. search needs) plus-requires-2 plus-requires-3 returns)

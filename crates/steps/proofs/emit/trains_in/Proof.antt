@@ -8,18 +8,6 @@ use Rattle.steps.proofs.Read.{train-read}
 use Rattle.steps.proofs.emit.trains_in.Statement.{statement}
 use Rattle.steps.proofs.emit.trains_in.Tie as tie
 
-enum-told : tie.Need-enum-told
-enum-told c = search needs
-
-natural-requires : tie.Need-natural-requires
-natural-requires c κs = search needs
-
-enum-told-2 : tie.Need-enum-told-2
-enum-told-2 c = search needs
-
-natural-requires-2 : tie.Need-natural-requires-2
-natural-requires-2 c κs = search needs
-
 returns : tie.Need-returns
 unfolding trainsIn
 returns c =
@@ -35,4 +23,4 @@ returns-2 c =
     rw (told .enum-told2 .given .1) (c .natural2 .ensures ∙ ap up (train-read (start .args .train) (c .before .struct-told2 .given) .night))
 
 pub trains-in-spec : {M : Type 1} → statement M
-trains-in-spec = tie.close (tie.spec enum-told natural-requires enum-told-2 natural-requires-2 returns returns-2)
+trains-in-spec = tie.close (tie.spec (λ c. search needs) (λ c κs. search needs) (λ c. search needs) (λ c κs. search needs) returns returns-2)

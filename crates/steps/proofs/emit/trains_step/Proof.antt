@@ -9,15 +9,6 @@ use Rattle.steps.specs.Parts.{Below}
 use Rattle.steps.proofs.emit.trains_step.Statement.{statement}
 use Rattle.steps.proofs.emit.trains_step.Tie as tie
 
-trains-in-requires : tie.Need-trains-in-requires
-trains-in-requires c κs = search needs
-
-ten-log-requires : tie.Need-ten-log-requires
-ten-log-requires c κs = search needs
-
-hours-requires : tie.Need-hours-requires
-hours-requires c κs = search needs
-
 less-requires : tie.Need-less-requires
 less-requires c κs = summands (below-answer (c .before .ten-log .ensures)) (subst (Below 500) (sym (c .hours .ensures)) (hours-below (c .before .before .before .before .args .period))) (lit≤ tt)
 
@@ -28,4 +19,4 @@ returns c =
     tenths-read (trains-is (start .args .period) (start .args .train) (start .pre .0) (start .pre .1) (log .before .trains-in .ensures) (log .ten-log .ensures) (c .before .hours .ensures) (c .less .ensures))
 
 pub trains-step-spec : {M : Type 1} → statement M
-trains-step-spec = tie.close (tie.spec trains-in-requires ten-log-requires hours-requires less-requires returns)
+trains-step-spec = tie.close (tie.spec (λ c κs. search needs) (λ c κs. search needs) (λ c κs. search needs) less-requires returns)

@@ -9,12 +9,6 @@ use Rattle.steps.proofs.Emission.{vehicles-is}
 use Rattle.steps.proofs.emit.vehicles_step.Statement.{statement}
 use Rattle.steps.proofs.emit.vehicles_step.Tie as tie
 
-natural-requires : tie.Need-natural-requires
-natural-requires c κs = search needs
-
-ten-log-requires : tie.Need-ten-log-requires
-ten-log-requires c κs = search needs
-
 returns : tie.Need-returns
 returns c =
     let n = c .before in
@@ -23,4 +17,4 @@ returns c =
     tenths-read (vehicles-is (start .args .train) (start .pre) e (c .ten-log .ensures))
 
 pub vehicles-step-spec : {M : Type 1} → statement M
-vehicles-step-spec = tie.close (tie.spec natural-requires ten-log-requires returns)
+vehicles-step-spec = tie.close (tie.spec (λ c κs. search needs) (λ c κs. search needs) returns)

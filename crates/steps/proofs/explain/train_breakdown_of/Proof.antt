@@ -8,24 +8,6 @@ use Rattle.steps.proofs.Explained.{running-parts, resting-parts, refuse
 use Rattle.steps.proofs.explain.train_breakdown_of.Statement.{statement}
 use Rattle.steps.proofs.explain.train_breakdown_of.Tie as tie
 
-train-check-requires : tie.Need-train-check-requires
-train-check-requires c κs = search needs
-
-enum-told : tie.Need-enum-told
-enum-told c = search needs
-
-no-train-parts-requires : tie.Need-no-train-parts-requires
-no-train-parts-requires c κs = search needs
-
-enum-told-2 : tie.Need-enum-told-2
-enum-told-2 c = search needs
-
-trains-in-requires : tie.Need-trains-in-requires
-trains-in-requires c κs = search needs
-
-no-train-parts-requires-2 : tie.Need-no-train-parts-requires-2
-no-train-parts-requires-2 c κs = search needs
-
 returns : tie.Need-returns
 returns c =
     let branch = c .before in
@@ -57,4 +39,4 @@ returns-3 c =
     λ t. running-parts (start .args .period) (start .args .train) (sym (check .train-check .ensures) ∙ told .enum-told2 .given .1) (omega (arith, branch .if1 .left, branch .before .trains-in .ensures)) (c .train-parts-of .ensures t)
 
 pub train-breakdown-of-spec : {M : Type 1} → statement M
-train-breakdown-of-spec = tie.close (tie.spec train-check-requires enum-told no-train-parts-requires enum-told-2 trains-in-requires no-train-parts-requires-2 returns train-parts-of-requires returns-2 returns-3)
+train-breakdown-of-spec = tie.close (tie.spec (λ c κs. search needs) (λ c. search needs) (λ c κs. search needs) (λ c. search needs) (λ c κs. search needs) (λ c κs. search needs) returns train-parts-of-requires returns-2 returns-3)

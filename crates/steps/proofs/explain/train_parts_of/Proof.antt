@@ -5,18 +5,6 @@ use Rattle.steps.proofs.Explained.{train-parts-are}
 use Rattle.steps.proofs.explain.train_parts_of.Statement.{statement}
 use Rattle.steps.proofs.explain.train_parts_of.Tie as tie
 
-speed-step-requires : tie.Need-speed-step-requires
-speed-step-requires c κs = search needs
-
-vehicles-step-requires : tie.Need-vehicles-step-requires
-vehicles-step-requires c κs = search needs
-
-trains-step-requires : tie.Need-trains-step-requires
-trains-step-requires c κs = search needs
-
-rolling-requires : tie.Need-rolling-requires
-rolling-requires c κs = search needs
-
 returns : tie.Need-returns
 returns c =
     let trains = c .before in
@@ -25,4 +13,4 @@ returns c =
     train-parts-are (start .args .period) (start .args .train) (start .pre .0) (vehicles .before .speed-step .ensures) (vehicles .vehicles-step .ensures) (trains .trains-step .ensures) (c .rolling .ensures)
 
 pub train-parts-of-spec : {M : Type 1} → statement M
-train-parts-of-spec = tie.close (tie.spec speed-step-requires vehicles-step-requires trains-step-requires rolling-requires returns)
+train-parts-of-spec = tie.close (tie.spec (λ c κs. search needs) (λ c κs. search needs) (λ c κs. search needs) (λ c κs. search needs) returns)

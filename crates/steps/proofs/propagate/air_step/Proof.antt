@@ -8,20 +8,11 @@ use Rattle.steps.proofs.Steps.{slant-is, air-cast, air-is}
 use Rattle.steps.proofs.propagate.air_step.Statement.{statement}
 use Rattle.steps.proofs.propagate.air_step.Tie as tie
 
-slant-of-requires : tie.Need-slant-of-requires
-slant-of-requires c κs = search needs
-
 mul-root-up : tie.Need-mul-root-up
 mul-root-up c = omega (arith, slant-is (c .before .before .before .pre) (c .slant-of .ensures))
 
 root-up-requires : tie.Need-root-up-requires
 root-up-requires c κs = omega (arith, slant-is (c .before .before .before .pre) (c .slant-of .ensures))
-
-sub-less : tie.Need-sub-less
-sub-less c = search needs
-
-cast-less : tie.Need-cast-less
-cast-less c = search needs
 
 less-requires : tie.Need-less-requires
 less-requires c κs = (air-cast (c .root-up .result) (lit≤ tt), natural-below (lit< tt))
@@ -32,4 +23,4 @@ returns c =
     air-is (start .args .s) (slant-is (start .pre) (c .before .before .slant-of .ensures) .0) (c .before .root-up .ensures) (c .less .ensures)
 
 pub air-step-spec : {M : Type 1} → statement M
-air-step-spec = tie.close (tie.spec slant-of-requires mul-root-up root-up-requires sub-less cast-less less-requires returns)
+air-step-spec = tie.close (tie.spec (λ c κs. search needs) mul-root-up root-up-requires (λ c. search needs) (λ c. search needs) less-requires returns)

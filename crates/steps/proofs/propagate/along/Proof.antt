@@ -5,23 +5,11 @@ use Rattle.steps.proofs.Sums.{opposite-asked, angle-asked, air-asked, d
 use Rattle.steps.proofs.propagate.along.Statement.{statement}
 use Rattle.steps.proofs.propagate.along.Tie as tie
 
-angle-step-requires : tie.Need-angle-step-requires
-angle-step-requires c κs = search needs
-
-opposite-step-requires : tie.Need-opposite-step-requires
-opposite-step-requires c κs = search needs
-
 plus-requires : tie.Need-plus-requires
 plus-requires c κs = opposite-asked _ (c .before .before .before .pre .1) (c .opposite-step .ensures)
 
 plus-requires-2 : tie.Need-plus-requires-2
 plus-requires-2 c κs = angle-asked _ (c .before .before .before .before .pre .1) (c .before .opposite-step .ensures) (c .plus .ensures) (c .before .before .angle-step .ensures)
-
-distance-step-requires : tie.Need-distance-step-requires
-distance-step-requires c κs = search needs
-
-air-step-requires : tie.Need-air-step-requires
-air-step-requires c κs = search needs
 
 plus-requires-3 : tie.Need-plus-requires-3
 plus-requires-3 c κs =
@@ -41,4 +29,4 @@ returns c =
     (c .before .before .air-step .ensures) (c .before .plus3 .ensures) (c .before .before .before .distance-step .ensures) (c .plus4 .ensures)
 
 pub along-spec : {M : Type 1} → statement M
-along-spec = tie.close (tie.spec angle-step-requires opposite-step-requires plus-requires plus-requires-2 distance-step-requires air-step-requires plus-requires-3 plus-requires-4 returns)
+along-spec = tie.close (tie.spec (λ c κs. search needs) (λ c κs. search needs) plus-requires plus-requires-2 (λ c κs. search needs) (λ c κs. search needs) plus-requires-3 plus-requires-4 returns)

@@ -10,22 +10,10 @@ use Rattle.steps.proofs.Steps.{view-is, angle-is}
 use Rattle.steps.proofs.propagate.angle_step.Statement.{statement}
 use Rattle.steps.proofs.propagate.angle_step.Tie as tie
 
-natural-requires : tie.Need-natural-requires
-natural-requires c κs = search needs
-
-natural-requires-2 : tie.Need-natural-requires-2
-natural-requires-2 c κs = search needs
-
 y-of-requires : tie.Need-y-of-requires
 y-of-requires c κs =
     let g = c .before .before .before .before .before .pre in
     omega (arith, read-up (lit< tt) (g .view) (c .before .before .natural .ensures), g .view .most)
-
-wide-natural-requires : tie.Need-wide-natural-requires
-wide-natural-requires c κs = search needs
-
-ten-log-requires : tie.Need-ten-log-requires
-ten-log-requires c κs = search needs
 
 less-requires : tie.Need-less-requires
 less-requires c κs = (below-read {z = c .ten-log .result} (below-more (lit≤ tt) (below-mag (c .ten-log .ensures .small))), natural-below (lit< tt))
@@ -38,4 +26,4 @@ returns c =
     (view-is (start .pre) (y .before .before .before .natural .ensures) (y .before .natural2 .ensures) (y .y-of .ensures) (c .before .before .wide-natural .ensures)) (c .before .ten-log .ensures) (c .less .ensures)
 
 pub angle-step-spec : {M : Type 1} → statement M
-angle-step-spec = tie.close (tie.spec natural-requires natural-requires-2 y-of-requires wide-natural-requires ten-log-requires less-requires returns)
+angle-step-spec = tie.close (tie.spec (λ c κs. search needs) (λ c κs. search needs) y-of-requires (λ c κs. search needs) (λ c κs. search needs) less-requires returns)

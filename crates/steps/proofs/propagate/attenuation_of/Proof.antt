@@ -8,20 +8,11 @@ use Rattle.steps.proofs.Path.{attenuation-none, part-fits, attenuation-
 use Rattle.steps.proofs.propagate.attenuation_of.Statement.{statement}
 use Rattle.steps.proofs.propagate.attenuation_of.Tie as tie
 
-natural-requires : tie.Need-natural-requires
-natural-requires c κs = search needs
-
 mul-fine-log : tie.Need-mul-fine-log
 mul-fine-log c = omega (arith, read-up (lit< tt) (c .before .before .before .pre .distance) (c .natural .ensures), c .before .before .before .pre .distance .most)
 
-fine-log-requires : tie.Need-fine-log-requires
-fine-log-requires c κs = search needs
-
 returns : tie.Need-returns
 returns c = attenuation-none (c .before .before .before .before .before .pre) (c .before .before .natural .ensures) (c .before .fine-log .ensures) (c .if1 .taken)
-
-ground-factor-requires : tie.Need-ground-factor-requires
-ground-factor-requires c κs = search needs
 
 mul-result : tie.Need-mul-result
 mul-result c = part-fits (c .before .before .before .before .before .before .pre) (c .before .before .before .natural .ensures) (c .before .before .fine-log .ensures) (c .ground-factor .ensures)
@@ -30,4 +21,4 @@ returns-2 : tie.Need-returns-2
 returns-2 c = attenuation-some (c .before .before .before .before .before .before .pre) (c .before .before .before .natural .ensures) (c .before .before .fine-log .ensures) (c .ground-factor .ensures)
 
 pub attenuation-of-spec : {M : Type 1} → statement M
-attenuation-of-spec = tie.close (tie.spec natural-requires mul-fine-log fine-log-requires returns ground-factor-requires mul-result returns-2)
+attenuation-of-spec = tie.close (tie.spec (λ c κs. search needs) mul-fine-log (λ c κs. search needs) returns (λ c κs. search needs) mul-result returns-2)

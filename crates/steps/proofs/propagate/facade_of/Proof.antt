@@ -6,9 +6,6 @@ use Rattle.steps.proofs.Sums.{facade-is}
 use Rattle.steps.proofs.propagate.facade_of.Statement.{statement}
 use Rattle.steps.proofs.propagate.facade_of.Tie as tie
 
-in-range-requires : tie.Need-in-range-requires
-in-range-requires c κs = search needs
-
 returns : tie.Need-returns
 returns c =
     let s = c .before .before .before .args .s in
@@ -20,4 +17,4 @@ returns-2 c =
     facade-is s (c .before .in-range .ensures) (read s (c .before .before .struct-told .given) .facade) (c .if1 .left)
 
 pub facade-of-spec : {M : Type 1} → statement M
-facade-of-spec = tie.close (tie.spec in-range-requires returns returns-2)
+facade-of-spec = tie.close (tie.spec (λ c κs. search needs) returns returns-2)

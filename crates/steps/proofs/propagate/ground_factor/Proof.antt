@@ -5,17 +5,8 @@ use Rattle.steps.proofs.Path.{soft-fits, clamped-most, factor-fits, fac
 use Rattle.steps.proofs.propagate.ground_factor.Statement.{statement}
 use Rattle.steps.proofs.propagate.ground_factor.Tie as tie
 
-natural-requires : tie.Need-natural-requires
-natural-requires c κs = search needs
-
 mul-result : tie.Need-mul-result
 mul-result c = soft-fits (c .before .before .pre) (c .natural .ensures)
-
-natural-requires-2 : tie.Need-natural-requires-2
-natural-requires-2 c κs = search needs
-
-clamp-requires : tie.Need-clamp-requires
-clamp-requires c κs = search needs
 
 sub-result : tie.Need-sub-result
 sub-result c = clamped-most (c .before .before .before .before .before .pre) (c .before .before .before .natural .ensures) (c .before .natural2 .ensures) (c .clamp .ensures)
@@ -27,4 +18,4 @@ returns : tie.Need-returns
 returns c = factor-is (c .before .before .before .before .before .pre) (c .before .before .before .natural .ensures) (c .before .natural2 .ensures) (c .clamp .ensures)
 
 pub ground-factor-spec : {M : Type 1} → statement M
-ground-factor-spec = tie.close (tie.spec natural-requires mul-result natural-requires-2 clamp-requires sub-result mul-result-2 returns)
+ground-factor-spec = tie.close (tie.spec (λ c κs. search needs) mul-result (λ c κs. search needs) (λ c κs. search needs) sub-result mul-result-2 returns)

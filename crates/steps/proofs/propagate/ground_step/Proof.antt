@@ -5,22 +5,10 @@ use Rattle.steps.proofs.Path.{path-near, path-far}
 use Rattle.steps.proofs.propagate.ground_step.Statement.{statement}
 use Rattle.steps.proofs.propagate.ground_step.Tie as tie
 
-natural-requires : tie.Need-natural-requires
-natural-requires c κs = search needs
-
 returns : tie.Need-returns
 returns c =
     let p = c .before .before .before .before .pre in
     path-near (p .0) (p .1) (c .before .natural .ensures) (c .if1 .taken)
-
-attenuation-of-requires : tie.Need-attenuation-of-requires
-attenuation-of-requires c κs = search needs
-
-ground-tenths-requires : tie.Need-ground-tenths-requires
-ground-tenths-requires c κs = search needs
-
-is-close-requires : tie.Need-is-close-requires
-is-close-requires c κs = search needs
 
 returns-2 : tie.Need-returns-2
 returns-2 c =
@@ -29,4 +17,4 @@ returns-2 c =
     path-far (p .0) (p .1) (far .before .natural .ensures) (far .if1 .left) (c .before .before .attenuation-of .ensures) (c .before .ground-tenths .ensures) (c .is-close .ensures)
 
 pub ground-step-spec : {M : Type 1} → statement M
-ground-step-spec = tie.close (tie.spec natural-requires returns attenuation-of-requires ground-tenths-requires is-close-requires returns-2)
+ground-step-spec = tie.close (tie.spec (λ c κs. search needs) returns (λ c κs. search needs) (λ c κs. search needs) (λ c κs. search needs) returns-2)

@@ -7,12 +7,6 @@ use Rattle.steps.proofs.Path.{louder-cast, louder-is}
 use Rattle.steps.proofs.propagate.ground_tenths.Statement.{statement}
 use Rattle.steps.proofs.propagate.ground_tenths.Tie as tie
 
-add-less : tie.Need-add-less
-add-less c = search needs
-
-cast-less : tie.Need-cast-less
-cast-less c = search needs
-
 less-requires : tie.Need-less-requires
 less-requires c κs = (natural-below (lit< tt), louder-cast (c .pre) (lit≤ tt))
 
@@ -20,4 +14,4 @@ returns : tie.Need-returns
 returns c = louder-is (c .before .args .a) (c .before .pre) (c .less .ensures)
 
 pub ground-tenths-spec : {M : Type 1} → statement M
-ground-tenths-spec = tie.close (tie.spec add-less cast-less less-requires returns)
+ground-tenths-spec = tie.close (tie.spec (λ c. search needs) (λ c. search needs) less-requires returns)

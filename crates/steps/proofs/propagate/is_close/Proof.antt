@@ -4,8 +4,5 @@ use borrow.Author.Needs.{needs}
 use Rattle.steps.proofs.propagate.is_close.Statement.{statement}
 use Rattle.steps.proofs.propagate.is_close.Tie as tie
 
-returns : tie.Need-returns
-returns c = search needs
-
 pub is-close-spec : {M : Type 1} → statement M
-is-close-spec = tie.close (tie.spec returns)
+is-close-spec = tie.close (tie.spec (λ c. search needs))

@@ -5,14 +5,8 @@ use Rattle.steps.proofs.Steps.{opposite-fits, view-some, share-fits, sh
 use Rattle.steps.proofs.propagate.opposite_step.Statement.{statement}
 use Rattle.steps.proofs.propagate.opposite_step.Tie as tie
 
-natural-requires : tie.Need-natural-requires
-natural-requires c κs = search needs
-
 mul-share : tie.Need-mul-share
 mul-share c = opposite-fits (c .before .before .pre) (c .natural .ensures)
-
-natural-requires-2 : tie.Need-natural-requires-2
-natural-requires-2 c κs = search needs
 
 div-share : tie.Need-div-share
 div-share c = view-some (c .before .before .before .before .pre) (c .before .before .natural .ensures) (c .natural2 .ensures)
@@ -27,4 +21,4 @@ returns : tie.Need-returns
 returns c = opposite-is (c .before .before .before .before .pre) (c .before .before .natural .ensures) (c .natural2 .ensures)
 
 pub opposite-step-spec : {M : Type 1} → statement M
-opposite-step-spec = tie.close (tie.spec natural-requires mul-share natural-requires-2 div-share add-result cast-result returns)
+opposite-step-spec = tie.close (tie.spec (λ c κs. search needs) mul-share (λ c κs. search needs) div-share add-result cast-result returns)

@@ -6,14 +6,8 @@ use Rattle.steps.proofs.Path.{path-screened}
 use Rattle.steps.proofs.propagate.path_step.Statement.{statement}
 use Rattle.steps.proofs.propagate.path_step.Tie as tie
 
-is-unscreened-requires : tie.Need-is-unscreened-requires
-is-unscreened-requires c κs = search needs
-
 ground-step-requires : tie.Need-ground-step-requires
 ground-step-requires c κs = (c .before .before .before .pre, sym (c .before .is-unscreened .ensures) ∙ c .if1 .taken)
-
-returns : tie.Need-returns
-returns c = search needs
 
 screen-step-requires : tie.Need-screen-step-requires
 screen-step-requires c κs = (c .before .before .before .pre, sym (c .before .is-unscreened .ensures) ∙ c .if1 .left)
@@ -22,4 +16,4 @@ returns-2 : tie.Need-returns-2
 returns-2 c = path-screened _ (sym (c .before .before .is-unscreened .ensures) ∙ c .before .if1 .left) (c .screen-step .ensures)
 
 pub path-step-spec : {M : Type 1} → statement M
-path-step-spec = tie.close (tie.spec is-unscreened-requires ground-step-requires returns screen-step-requires returns-2)
+path-step-spec = tie.close (tie.spec (λ c κs. search needs) ground-step-requires (λ c. search needs) screen-step-requires returns-2)

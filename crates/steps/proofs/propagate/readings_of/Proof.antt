@@ -5,9 +5,6 @@ use Rattle.steps.proofs.Sums.{track-asked, chart-asked, facade-asked, r
 use Rattle.steps.proofs.propagate.readings_of.Statement.{statement}
 use Rattle.steps.proofs.propagate.readings_of.Tie as tie
 
-facade-of-requires : tie.Need-facade-of-requires
-facade-of-requires c κs = search needs
-
 plus-requires : tie.Need-plus-requires
 plus-requires c κs = track-asked (c .before .before .before .pre)
 
@@ -25,4 +22,4 @@ returns c =
     readings-are (facade .before .pre) (c .before .before .before .plus .ensures) (c .before .plus2 .ensures) (facade .facade-of .ensures) (c .plus3 .ensures)
 
 pub readings-of-spec : {M : Type 1} → statement M
-readings-of-spec = tie.close (tie.spec facade-of-requires plus-requires plus-requires-2 plus-requires-3 returns)
+readings-of-spec = tie.close (tie.spec (λ c κs. search needs) plus-requires plus-requires-2 plus-requires-3 returns)

@@ -6,9 +6,6 @@ use Rattle.steps.proofs.Steps.{root-small, square-fits, whole-root-up, 
 use Rattle.steps.proofs.propagate.root_up.Statement.{statement}
 use Rattle.steps.proofs.propagate.root_up.Tie as tie
 
-root-requires : tie.Need-root-requires
-root-requires c κs = search needs
-
 mul-if1 : tie.Need-mul-if1
 mul-if1 c = square-fits _ _ (c .root .ensures) (c .before .pre)
 
@@ -22,4 +19,4 @@ returns-2 : tie.Need-returns-2
 returns-2 c = next-root-up _ _ (c .before .root .ensures) (c .before .before .pre) (c .if1 .left)
 
 pub root-up-spec : {M : Type 1} → statement M
-root-up-spec = tie.close (tie.spec root-requires mul-if1 returns add-result returns-2)
+root-up-spec = tie.close (tie.spec (λ c κs. search needs) mul-if1 returns add-result returns-2)

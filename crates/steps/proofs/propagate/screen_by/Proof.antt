@@ -12,17 +12,8 @@ mul-shadow-tenths c = omega (arith, c .before .before .pre (c .if1 .taken))
 add-shadow-tenths : tie.Need-add-shadow-tenths
 add-shadow-tenths c = omega (arith, c .before .before .pre (c .if1 .taken))
 
-shadow-tenths-requires : tie.Need-shadow-tenths-requires
-shadow-tenths-requires c κs = search needs
-
 returns : tie.Need-returns
 returns c = screen-shaded (c .before .if1 .taken) (c .before .before .before .pre (c .before .if1 .taken)) (c .shadow-tenths .ensures)
-
-add-illuminated-tenths : tie.Need-add-illuminated-tenths
-add-illuminated-tenths c = search needs
-
-illuminated-tenths-requires : tie.Need-illuminated-tenths-requires
-illuminated-tenths-requires c κs = search needs
 
 returns-2 : tie.Need-returns-2
 returns-2 c = screen-lit (c .before .before .if1 .left) (c .before .if2 .taken) (c .illuminated-tenths .ensures)
@@ -31,4 +22,4 @@ returns-3 : tie.Need-returns-3
 returns-3 c = screen-clear (c .before .if1 .left) (c .if2 .left)
 
 pub screen-by-spec : {M : Type 1} → statement M
-screen-by-spec = tie.close (tie.spec mul-shadow-tenths add-shadow-tenths shadow-tenths-requires returns add-illuminated-tenths illuminated-tenths-requires returns-2 returns-3)
+screen-by-spec = tie.close (tie.spec mul-shadow-tenths add-shadow-tenths (λ c κs. search needs) returns (λ c. search needs) (λ c κs. search needs) returns-2 returns-3)

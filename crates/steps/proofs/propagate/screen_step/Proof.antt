@@ -7,9 +7,6 @@ use Rattle.steps.proofs.Path.{screen-is}
 use Rattle.steps.proofs.propagate.screen_step.Statement.{statement}
 use Rattle.steps.proofs.propagate.screen_step.Tie as tie
 
-in-shadow-requires : tie.Need-in-shadow-requires
-in-shadow-requires c κs = search needs
-
 path-difference-requires : tie.Need-path-difference-requires
 path-difference-requires c κs = c .before .before .pre .0 .placed
 
@@ -22,4 +19,4 @@ returns : tie.Need-returns
 returns c = screen-is (c .before .before .before .before .args .s) (c .before .before .in-shadow .ensures) (c .before .path-difference .ensures) (c .screen-by .ensures)
 
 pub screen-step-spec : {M : Type 1} → statement M
-screen-step-spec = tie.close (tie.spec in-shadow-requires path-difference-requires screen-by-requires returns)
+screen-step-spec = tie.close (tie.spec (λ c κs. search needs) path-difference-requires screen-by-requires returns)

@@ -6,18 +6,6 @@ use Rattle.steps.proofs.Steps.{product-fits, quotient-fits, y-fits, y-i
 use Rattle.steps.proofs.propagate.y_of.Statement.{statement}
 use Rattle.steps.proofs.propagate.y_of.Tie as tie
 
-mul-turn : tie.Need-mul-turn
-mul-turn c = search needs
-
-cast-turn : tie.Need-cast-turn
-cast-turn c = search needs
-
-sine-requires : tie.Need-sine-requires
-sine-requires c κs = search needs
-
-cosine-requires : tie.Need-cosine-requires
-cosine-requires c κs = search needs
-
 mul-result : tie.Need-mul-result
 mul-result c = product-fits _ (c .before .sine .result) (c .cosine .result) (c .before .before .before .pre) (c .before .sine .ensures .small) (c .cosine .ensures .small)
 
@@ -31,4 +19,4 @@ returns : tie.Need-returns
 returns c = y-is _ (c .before .sine .result) (c .cosine .result) (c .before .before .before .pre) (c .before .sine .ensures .small) (c .cosine .ensures .small) (c .before .sine .ensures .is) (c .cosine .ensures .is)
 
 pub y-of-spec : {M : Type 1} → statement M
-y-of-spec = tie.close (tie.spec mul-turn cast-turn sine-requires cosine-requires mul-result div-result sub-result returns)
+y-of-spec = tie.close (tie.spec (λ c. search needs) (λ c. search needs) (λ c κs. search needs) (λ c κs. search needs) mul-result div-result sub-result returns)

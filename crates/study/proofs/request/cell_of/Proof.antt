@@ -7,12 +7,6 @@ use Rattle.study.proofs.Cells.{silent-raised, figure-raised, raised-sma
 use Rattle.study.proofs.request.cell_of.Statement.{statement}
 use Rattle.study.proofs.request.cell_of.Tie as tie
 
-enum-told : tie.Need-enum-told
-enum-told c = search needs
-
-enum-known-emission : tie.Need-enum-known-emission
-enum-known-emission c = search needs
-
 add-result : tie.Need-add-result
 add-result c =
     let start = c .before .before .before in
@@ -30,4 +24,4 @@ returns-2 c =
     (figure-raised (start .args .tenths) (e .1))
 
 pub cell-of-spec : {M : Type 1} → statement M
-cell-of-spec = tie.close (tie.spec enum-told enum-known-emission add-result returns returns-2)
+cell-of-spec = tie.close (tie.spec (λ c. search needs) (λ c. search needs) add-result returns returns-2)

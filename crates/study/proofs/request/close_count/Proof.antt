@@ -30,9 +30,6 @@ array-copy-out-propagation c = omega arith
 array-read-one : tie.Need-array-read-one Inv-loop μ-loop
 array-read-one c = omega arith
 
-one-requires : tie.Need-one-requires Inv-loop μ-loop
-one-requires c κs = search needs
-
 add-close : tie.Need-add-close Inv-loop μ-loop
 add-close c = omega arith
 
@@ -61,7 +58,7 @@ close-count-spec =
     mul-propagation
     array-copy-out-propagation
     array-read-one
-    one-requires
+    (λ c κs. search needs)
     add-close
     add-k
     loop-less

@@ -20,9 +20,6 @@ Inv-loop tables found period at cells₀ study total i₀ cells i =
 abbrev μ-loop : tie.MeasureT-loop
 μ-loop tables found period at cells₀ study total i₀ cells i = total - i
 
-at-most-requires : tie.Need-at-most-requires Inv-loop μ-loop
-at-most-requires c κs = search needs
-
 loop-holds : tie.Need-loop-holds Inv-loop μ-loop
 loop-holds c =
     let start = c .before .before in
@@ -35,12 +32,6 @@ mul-entry c = omega arith
 
 element-copy-out-entry : tie.Need-element-copy-out-entry Inv-loop μ-loop
 element-copy-out-entry c = omega arith
-
-emission-of-requires : tie.Need-emission-of-requires Inv-loop μ-loop
-emission-of-requires c κs = search needs
-
-tenths-at-requires : tie.Need-tenths-at-requires Inv-loop μ-loop
-tenths-at-requires c κs = search needs
 
 cell-of-requires : tie.Need-cell-of-requires Inv-loop μ-loop
 cell-of-requires c κs =
@@ -95,12 +86,12 @@ fill-spec =
     (tie.spec
     Inv-loop
     μ-loop
-    at-most-requires
+    (λ c κs. search needs)
     loop-holds
     mul-entry
     element-copy-out-entry
-    emission-of-requires
-    tenths-at-requires
+    (λ c κs. search needs)
+    (λ c κs. search needs)
     cell-of-requires
     add-t14
     mul-t20

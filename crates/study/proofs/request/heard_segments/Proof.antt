@@ -20,9 +20,6 @@ Inv-loop levels study total heard₀ i₀ heard i = (i ≤ total) × (total ≤ 
 abbrev μ-loop : tie.MeasureT-loop
 μ-loop levels study total heard₀ i₀ heard i = total - i
 
-at-most-requires : tie.Need-at-most-requires Inv-loop μ-loop
-at-most-requires c κs = search needs
-
 loop-holds : tie.Need-loop-holds Inv-loop μ-loop
 loop-holds c =
     let start = c .before in
@@ -43,9 +40,6 @@ mul-mark c = omega arith
 
 shared-slice-copy-out-mark : tie.Need-shared-slice-copy-out-mark Inv-loop μ-loop
 shared-slice-copy-out-mark c = omega (arith, c .before .before .before .before .before .pre)
-
-mark-requires : tie.Need-mark-requires Inv-loop μ-loop
-mark-requires c κs = search needs
 
 add-i : tie.Need-add-i Inv-loop μ-loop
 add-i c = omega arith
@@ -77,14 +71,14 @@ heard-segments-spec =
     (tie.spec
     Inv-loop
     μ-loop
-    at-most-requires
+    (λ c κs. search needs)
     loop-holds
     mul-entry
     element-copy-out-entry
     slice-aggregate-mark
     mul-mark
     shared-slice-copy-out-mark
-    mark-requires
+    (λ c κs. search needs)
     add-i
     loop-less
     loop-again

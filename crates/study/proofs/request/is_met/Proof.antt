@@ -6,15 +6,6 @@ use Rattle.study.proofs.Verdicts.{silent-unmet, met-from}
 use Rattle.study.proofs.request.is_met.Statement.{statement}
 use Rattle.study.proofs.request.is_met.Tie as tie
 
-enum-told : tie.Need-enum-told
-enum-told c = search needs
-
-enum-known-level : tie.Need-enum-known-level
-enum-known-level c = search needs
-
-limit-tenths-requires : tie.Need-limit-tenths-requires
-limit-tenths-requires c κs = search needs
-
 returns : tie.Need-returns
 returns c = silent-unmet (c .before .before .args .period) (c .before .before .args .level) (c .enum-told .given .1)
 
@@ -27,4 +18,4 @@ returns-2 c =
 
 pub is-met-spec : {M : Type 1} → statement M
 is-met-spec =
-    tie.close (tie.spec enum-told enum-known-level limit-tenths-requires returns returns-2)
+    tie.close (tie.spec (λ c. search needs) (λ c. search needs) (λ c κs. search needs) returns returns-2)

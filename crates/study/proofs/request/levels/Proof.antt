@@ -11,24 +11,12 @@ use Rattle.study.proofs.Answers.{no-entries, few-cells, enough-cells, r
 use Rattle.study.proofs.request.levels.Statement.{statement}
 use Rattle.study.proofs.request.levels.Tie as tie
 
-at-most-requires : tie.Need-at-most-requires
-at-most-requires c κs = search needs
-
-turned-back-requires : tie.Need-turned-back-requires
-turned-back-requires c κs = search needs
-
 returns : tie.Need-returns
 returns c =
     let start = c .before .before .before in
     let st = start .args .study in
     let count = plan-total st (start .good .0) (c .before .before .at-most .ensures) in
     refused-answer st (few-entries st (start .good .0)) (start .args .cells .now) NoEntry (c .turned-back .result) (no-entries (planOf st) _ (sym count ∙ c .before .if1 .taken)) (c .turned-back .ensures)
-
-add-if2 : tie.Need-add-if2
-add-if2 c = search needs
-
-turned-back-requires-2 : tie.Need-turned-back-requires-2
-turned-back-requires-2 c κs = search needs
 
 returns-2 : tie.Need-returns-2
 returns-2 c =
@@ -45,9 +33,6 @@ answered-requires c κs =
     let count = plan-total st (start .good .0) (c .before .before .before .at-most .ensures) in
     record { is = count; most = omega arith; room = omega (arith, c .before .if2 .left) }
 
-same-length : tie.Need-same-length
-same-length c = search needs
-
 returns-3 : tie.Need-returns-3
 returns-3 c =
     let start = c .before .before .before .before .before .before in
@@ -61,12 +46,12 @@ pub levels-spec : {M : Type 1} → statement M
 levels-spec =
     tie.close
     (tie.spec
-    at-most-requires
-    turned-back-requires
+    (λ c κs. search needs)
+    (λ c κs. search needs)
     returns
-    add-if2
-    turned-back-requires-2
+    (λ c. search needs)
+    (λ c κs. search needs)
     returns-2
     answered-requires
-    same-length
+    (λ c. search needs)
     returns-3)

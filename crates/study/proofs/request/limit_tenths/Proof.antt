@@ -5,12 +5,6 @@ use Rattle.study.specs.Levels.{limitOf}
 use Rattle.study.proofs.request.limit_tenths.Statement.{statement}
 use Rattle.study.proofs.request.limit_tenths.Tie as tie
 
-enum-told : tie.Need-enum-told
-enum-told c = search needs
-
-enum-told-2 : tie.Need-enum-told-2
-enum-told-2 c = search needs
-
 returns : tie.Need-returns
 unfolding limitOf
 returns c = rw (c .enum-told .given .1)
@@ -20,4 +14,4 @@ unfolding limitOf
 returns-2 c = rw (c .enum-told2 .given .1)
 
 pub limit-tenths-spec : {M : Type 1} → statement M
-limit-tenths-spec = tie.close (tie.spec enum-told enum-told-2 returns returns-2)
+limit-tenths-spec = tie.close (tie.spec (λ c. search needs) (λ c. search needs) returns returns-2)

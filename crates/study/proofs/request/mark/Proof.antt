@@ -7,15 +7,6 @@ use Rattle.study.specs.Parts.{markedBy}
 use Rattle.study.proofs.request.mark.Statement.{statement}
 use Rattle.study.proofs.request.mark.Tie as tie
 
-slice-read-heard : tie.Need-slice-read-heard
-slice-read-heard c = search needs
-
-slice-write-heard : tie.Need-slice-write-heard
-slice-write-heard c = search needs
-
-same-length : tie.Need-same-length
-same-length c = search needs
-
 returns : tie.Need-returns
 unfolding markedBy
 returns c = refl
@@ -25,4 +16,4 @@ unfolding markedBy
 returns-2 c = sym (set-out (c .before .args .heard .now) (c .before .args .k) _ (c .if1 .left))
 
 pub mark-spec : {M : Type 1} → statement M
-mark-spec = tie.close (tie.spec slice-read-heard slice-write-heard same-length returns returns-2)
+mark-spec = tie.close (tie.spec (λ c. search needs) (λ c. search needs) (λ c. search needs) returns returns-2)

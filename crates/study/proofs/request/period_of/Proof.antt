@@ -11,25 +11,10 @@ use Rattle.study.proofs.Results.{period-is}
 use Rattle.study.proofs.request.period_of.Statement.{statement}
 use Rattle.study.proofs.request.period_of.Tie as tie
 
-total-of-requires : tie.Need-total-of-requires
-total-of-requires c κs = search needs
-
 heard-segments-requires : tie.Need-heard-segments-requires
 heard-segments-requires c κs =
     let start = c .before .before in
     sym (ap length (start .pre .1 .1) ∙ cells-length (start .args .period) (planOf (start .args .study)))
-
-close-count-requires : tie.Need-close-count-requires
-close-count-requires c κs = search needs
-
-one-requires : tie.Need-one-requires
-one-requires c κs = search needs
-
-add-close : tie.Need-add-close
-add-close c = search needs
-
-is-met-requires : tie.Need-is-met-requires
-is-met-requires c κs = search needs
 
 returns : tie.Need-returns
 returns c =
@@ -44,10 +29,10 @@ pub period-of-spec : {M : Type 1} → statement M
 period-of-spec =
     tie.close
     (tie.spec
-    total-of-requires
+    (λ c κs. search needs)
     heard-segments-requires
-    close-count-requires
-    one-requires
-    add-close
-    is-met-requires
+    (λ c κs. search needs)
+    (λ c κs. search needs)
+    (λ c. search needs)
+    (λ c κs. search needs)
     returns)

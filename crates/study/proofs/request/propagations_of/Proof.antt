@@ -18,9 +18,6 @@ Inv-loop tables study count found₀ k₀ found k = (k ≤ count) × (count ≤ 
 abbrev μ-loop : tie.MeasureT-loop
 μ-loop tables study count found₀ k₀ found k = count - k
 
-at-most-requires : tie.Need-at-most-requires Inv-loop μ-loop
-at-most-requires c κs = search needs
-
 loop-holds : tie.Need-loop-holds Inv-loop μ-loop
 loop-holds c =
     let start = c .before .before in
@@ -32,9 +29,6 @@ mul-segment c = omega arith
 
 element-copy-out-segment : tie.Need-element-copy-out-segment Inv-loop μ-loop
 element-copy-out-segment c = omega arith
-
-propagation-of-requires : tie.Need-propagation-of-requires Inv-loop μ-loop
-propagation-of-requires c κs = search needs
 
 mul-found : tie.Need-mul-found Inv-loop μ-loop
 mul-found c = omega arith
@@ -72,11 +66,11 @@ propagations-of-spec =
     (tie.spec
     Inv-loop
     μ-loop
-    at-most-requires
+    (λ c κs. search needs)
     loop-holds
     mul-segment
     element-copy-out-segment
-    propagation-of-requires
+    (λ c κs. search needs)
     mul-found
     array-set-from-found
     add-k

@@ -8,19 +8,10 @@ use Rattle.study.specs.Parts.{noPropagation}
 use Rattle.study.proofs.request.tenths_at.Statement.{statement}
 use Rattle.study.proofs.request.tenths_at.Tie as tie
 
-mul-propagation : tie.Need-mul-propagation
-mul-propagation c = search needs
-
-array-copy-out-propagation : tie.Need-array-copy-out-propagation
-array-copy-out-propagation c = search needs
-
-returns : tie.Need-returns
-returns c = search needs
-
 returns-2 : tie.Need-returns-2
 returns-2 c =
     let h : length (c .before .args .t1) ≤ c .before .args .k = omega arith in
     rw (List·getD-eq-default (c .before .args .t1) noPropagation h)
 
 pub tenths-at-spec : {M : Type 1} → statement M
-tenths-at-spec = tie.close (tie.spec mul-propagation array-copy-out-propagation returns returns-2)
+tenths-at-spec = tie.close (tie.spec (λ c. search needs) (λ c. search needs) (λ c. search needs) returns-2)
