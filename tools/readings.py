@@ -13,8 +13,8 @@ ROOT = pathlib.Path(__file__).resolve().parent.parent
 CRATE = ROOT / "crates" / "readings"
 DATA = json.loads((ROOT / "tools" / "readings.json").read_text())
 SILENT = -9999
-# The worked examples that the program tries: those that document 01 asks for. Each function of the program is proved, so each
-# further example costs the gate some ten seconds; readings.json has the figures of the others.
+# The worked examples that the program tries: those that document 01 asks for. Each function of the program is proved, so
+# further examples lengthen the gate; readings.json has the figures of the others.
 EXAMPLES = ("2", "8")
 
 lines = []  # the expected output
