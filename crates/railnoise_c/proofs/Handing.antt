@@ -1,34 +1,55 @@
--- Laws of a call from C: what is handed over for a reading that is accepted, and for one that is refused.
+-- Laws of a call from C: a text's refusal comes before the request's, and then no cell is touched.
 -- Assumes nothing.
-use mathlib.Core.Path.{_≡_, _∙_, ap}
+use mathlib.Core.Path.{_≡_, refl, _∙_, ap, subst}
 use mathlib.Core.List.{List}
-use Prim.Native.Nat.{ℕ}
-use native.Mathlib.Omega.{arith}
 use lib.IntN.{ℤ}
+use lib.ListN.{length}
 use Rattle.steps.specs.declared.Refusal.{Refusal}
+use Rattle.steps.specs.declared.Refusal.the-variants.{NoEntry}
 use Rattle.steps.specs.declared.Check.{Check}
 use Rattle.steps.specs.declared.Check.the-variants.{Accepted, Refused}
+use Rattle.steps.specs.Refusal.{firstRefused}
+use Rattle.study.specs.declared.Study.{Study}
 use Rattle.study.specs.declared.request.Answer.{Answer}
-use Rattle.study.specs.Request.{Answered, quiet}
+use Rattle.study.specs.Plan.{planOf, emptyStudy}
+use Rattle.study.specs.Levels.{ownMarks}
+use Rattle.study.specs.Request.{Answered, AnsweredBy, cellsBy, answerBy, refusedBy, levelsCheck}
+use Rattle.study.proofs.Answers.{no-entries}
 use Rattle.text.specs.declared.Reading.{Reading}
 use Rattle.railnoise_c.specs.declared.RailnoiseAnswer.{RailnoiseAnswer}
 use Rattle.railnoise_c.specs.Exported.{exported, answerWith, cellsWith, Handed}
 
-not-both : {check : Check} {why : Refusal} → check ≡ Refused why → check ≡ Accepted → ⊥
-not-both r a = let z : _≡_ {A = ℕ} 0 1 = cc in omega arith
+-- the request over the empty study: 23, with the cells as they were
+record Idle (before after : List ℤ) (answer : Answer) : Type 0 where
+  cells : after ≡ before
+  refused : answer ≡ refusedBy NoEntry
 
-pub reading-accepted : (reading : Reading) {before after : List ℤ} {answer : Answer} {r : RailnoiseAnswer}
-    → reading .check ≡ Accepted
-    → Answered (reading .study) before after answer
-    → r ≡ exported 0 answer
-    → Handed reading before after r
-unfolding answerWith cellsWith
-reading-accepted reading a q e =
-    record { answer = rw a (e ∙ ap (exported 0) (q .by .answer)); cells = rw a (q .by .cells); allowed = λ _. q .allowed }
+idle : {before after : List ℤ} {answer : Answer} → Answered emptyStudy before after answer → Idle before after answer
+unfolding cellsBy answerBy planOf emptyStudy
+idle {before} q =
+    let none = no-entries (planOf emptyStudy) (length before) refl in
+    record { cells = q .by .cells ∙ rw none; refused = q .by .answer ∙ rw none }
 
-pub reading-refused : (reading : Reading) (cells : List ℤ) {why : Refusal} {r : RailnoiseAnswer}
-    → reading .check ≡ Refused why
-    → r ≡ exported (reading .line) (record { check = Refused why; day = quiet; night = quiet })
-    → Handed reading cells cells r
-unfolding answerWith cellsWith
-reading-refused reading cells f e = record { answer = rw f e; cells = rw f; allowed = λ a. absurd (not-both f a) }
+-- the answer with the text's refusal first
+abbrev pub judged : Check → Answer → Answer
+judged check answer = record { check = firstRefused check (answer .check); day = answer .day; night = answer .night }
+
+module _ (reading : Reading) {before after : List ℤ} {answer : Answer} {r : RailnoiseAnswer} (q : Answered (reading .study) before after answer)
+    (e : r ≡ exported (reading .line) (judged (reading .check) answer)) where
+  accepted : reading .check ≡ Accepted → Handed reading before after r
+  unfolding answerWith cellsWith firstRefused
+  accepted a = record { answer = rw a (e ∙ rw (a, q .by .answer)); cells = rw a (q .by .cells); allowed = q .allowed }
+
+  refused : {why : Refusal} → reading .check ≡ Refused why → reading .study ≡ emptyStudy → Handed reading before after r
+  unfolding answerWith cellsWith firstRefused refusedBy
+  refused f empty =
+      let still = idle (subst (λ (st : Study). Answered st before after answer) empty q) in
+      record { answer = rw f (e ∙ rw (f, still .refused)); cells = rw f (still .cells); allowed = q .allowed }
+
+  -- a refused text's study is empty
+  pub handed : ((why : Refusal) → reading .check ≡ Refused why → reading .study ≡ emptyStudy) → Handed reading before after r
+  handed empty = go (reading .check) refl
+    where
+      go : (c : Check) → reading .check ≡ c → Handed reading before after r
+      go Accepted a = accepted a
+      go (Refused why) f = refused f (empty why f)

@@ -47,9 +47,10 @@ exported line a =
 
 -- ---- text and cells handed over together: the text's refusals come before 24
 
--- so much of a reading with so many cells: a refused text's number and line with both periods silent, else the request over its study
+-- so much of a reading with so many cells: a refused text's number and line with both periods silent, else the request over its study.
+-- An accepted text's line is 0
 unfoldable pub answerWith : Check → ℕ → Plan → ℕ → RailnoiseAnswer
-answerWith Accepted line plan cells = exported 0 (answerBy (levelsCheck plan cells) plan (ownMarks plan))
+answerWith Accepted line plan cells = exported line (answerBy (levelsCheck plan cells) plan (ownMarks plan))
 answerWith (Refused why) line plan cells = exported line (record { check = Refused why; day = quiet; night = quiet })
 
 -- a refused text leaves the cells as they were, else the request over its study
@@ -61,7 +62,7 @@ cellsWith (Refused why) plan cells = cells
 pub record Handed (reading : Reading) (before after : List ℤ) (r : RailnoiseAnswer) : Type 0 where
   pub answer : r ≡ answerWith (reading .check) (reading .line) (planOf (reading .study)) (length before)
   pub cells : after ≡ cellsWith (reading .check) (planOf (reading .study)) before
-  pub allowed : reading .check ≡ Accepted → MarksAllowed (planOf (reading .study)) (ownMarks (planOf (reading .study)))
+  pub allowed : MarksAllowed (planOf (reading .study)) (ownMarks (planOf (reading .study)))
 
 abbrev pub Called : List ℕ → List ℤ → List ℤ → RailnoiseAnswer → Type 0
 Called text = Handed (readText ours text)

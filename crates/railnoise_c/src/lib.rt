@@ -1,6 +1,5 @@
 // The one function for C: a study text and working cells in, both periods' results out.
 ghost use mathlib.Core.Path.{_≡_};
-ghost use Rattle.study.specs.Request.{quiet as Request·quiet};
 ghost use Rattle.railnoise_c.specs.Exported.{exportedPeriod, exportedLine, exported, Called};
 use decibel::Level;
 use steps::Check;
@@ -69,35 +68,17 @@ fn answer_of(line: usize, answer: Answer) -> RailnoiseAnswer
     }
 }
 
-fn quiet() -> PeriodResult
-    ensures { λ r. ⌜ r ≡ Request·quiet ⌝ }
-{
-    PeriodResult {
-        level: Level::Silent,
-        close: 0,
-        met: false,
-    }
-}
-
-// Reads the text and answers the request for levels over its study. A refusal of the text comes before 24, and leaves the cells as they were.
+// Reads the text and answers the request for levels over its study. A refused text's own number comes first; its study is empty, so that no cell is touched.
 #[no_mangle]
 pub extern "C" fn railnoise_levels(text: &[u8], cells: &mut [i32]) -> RailnoiseAnswer
     ensures { λ r. ⌜ Called (now (text .entry)) (now (cells .entry)) (now (cells .exit)) r ⌝ }
 {
     let reading = text::read_text(text);
-    let check = reading.check;
-    match check {
-        Check::Accepted => {
-            let answer = study::request::levels(reading.study, cells);
-            answer_of(0, answer)
-        }
-        Check::Refused(refusal) => {
-            let answer = Answer {
-                check: Check::Refused(refusal),
-                day: quiet(),
-                night: quiet(),
-            };
-            answer_of(reading.line, answer)
-        }
-    }
+    let answer = study::request::levels(reading.study, cells);
+    let read = reading.check;
+    let asked = answer.check;
+    let check = steps::first_refused(read, asked);
+    let day = answer.day;
+    let night = answer.night;
+    answer_of(reading.line, Answer { check, day, night })
 }

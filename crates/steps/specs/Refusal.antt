@@ -38,6 +38,11 @@ unfoldable pub unless : Bool → Refusal → Check → Check
 unless true r rest = rest
 unless false r rest = Refused r
 
+-- the first of two checks where it refuses, else the second
+unfoldable pub firstRefused : Check → Check → Check
+firstRefused Accepted second = second
+firstRefused (Refused r) second = Refused r
+
 unfoldable pub isAccepted : Check → Bool
 isAccepted Accepted = true
 isAccepted (Refused r) = false

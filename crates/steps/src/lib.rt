@@ -11,7 +11,7 @@ ghost use lib.IntN.{_+ℤ_, _-ℤ_, _*ℤ_};
 ghost use Rattle.decibel.specs.Ints.{up};
 ghost use Rattle.steps.specs.Geometry.{slant, slantSquare, pathDifference, inShadow};
 ghost use Rattle.steps.specs.Parts.{Below, Square, Length, Placed};
-ghost use Rattle.steps.specs.Refusal.{numberOf, checkNumber};
+ghost use Rattle.steps.specs.Refusal.{numberOf, checkNumber, firstRefused};
 ghost use Rattle.steps.specs.Rules.{within, unscreened};
 
 // One length of track as document 01 numbers its fields: lengths in centimetres, angles in degrees, readings in tenths.
@@ -126,6 +126,16 @@ pub fn check_number(check: Check) -> u32
     match check {
         Check::Accepted => 0,
         Check::Refused(refusal) => number(refusal),
+    }
+}
+
+// The first of two checks where it refuses, else the second.
+pub fn first_refused(first: Check, second: Check) -> Check
+    ensures { λ r. ⌜ r ≡ firstRefused first second ⌝ }
+{
+    match first {
+        Check::Accepted => second,
+        Check::Refused(_) => first,
     }
 }
 

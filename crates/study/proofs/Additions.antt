@@ -11,11 +11,11 @@ use Rattle.steps.specs.declared.Refusal.{Refusal}
 use Rattle.steps.specs.declared.Refusal.the-variants.{NoSegment, SegmentLimit, EntryLimit}
 use Rattle.steps.specs.declared.Check.{Check}
 use Rattle.steps.specs.declared.Check.the-variants.{Accepted, Refused}
-use Rattle.steps.specs.Refusal.{unless}
+use Rattle.steps.specs.Refusal.{unless, firstRefused}
 use Rattle.steps.specs.Rules.{segmentCheck, trainCheck}
 use Rattle.study.specs.declared.Study.{Study}
 use Rattle.study.specs.declared.Added.{Added}
-use Rattle.study.specs.Add.{Limits, segmentAnswer, trainAnswer, answer}
+use Rattle.study.specs.Add.{Limits, segmentLimit, segmentAnswer, trainLimit, trainAnswer, answer}
 
 -- ---- the answer by its check
 
@@ -46,55 +46,62 @@ unfolding unless
 kept-rest true r rest e = cc
 kept-rest false r rest e = e
 
+-- both of two checks accept where the first refusal of them is none
+pub both-accept : (first second : Check) → firstRefused first second ≡ Accepted → (first ≡ Accepted) × (second ≡ Accepted)
+unfolding firstRefused
+both-accept Accepted second e = (refl, e)
+both-accept (Refused r) second e = (e, cc)
+
 -- ---- a segment: 21, then its own lines
 
-module _ (l : Limits) (count : ℕ) (s : Segment) where
-  pub segments-full : l .segments ≤ count → segmentAnswer l count s ≡ Refused SegmentLimit
-  unfolding segmentAnswer unless
+module _ (l : Limits) (count : ℕ) where
+  pub segments-full : l .segments ≤ count → segmentLimit l count ≡ Refused SegmentLimit
+  unfolding segmentLimit unless
   segments-full h = simp (le-leb (l .segments) count h)
 
-  pub segments-room : count < l .segments → segmentAnswer l count s ≡ segmentCheck s
-  unfolding segmentAnswer unless
+  pub segments-room : count < l .segments → segmentLimit l count ≡ Accepted
+  unfolding segmentLimit unless
   segments-room h = simp (lt-leb (l .segments) count h)
 
+module _ (l : Limits) (count : ℕ) (s : Segment) where
   pub record SegmentTaken : Type 0 where
     pub room : count < l .segments
     pub kept : segmentCheck s ≡ Accepted
 
   pub segment-taken : segmentAnswer l count s ≡ Accepted → SegmentTaken
-  unfolding segmentAnswer
+  unfolding segmentAnswer segmentLimit
   segment-taken e =
-      record {
-        room = leb-false (l .segments) count (kept-first (leb (l .segments) count) SegmentLimit _ e);
-        kept = kept-rest (leb (l .segments) count) SegmentLimit (segmentCheck s) e;
-      }
+      let both = both-accept (segmentLimit l count) (segmentCheck s) e in
+      record { room = leb-false (l .segments) count (kept-first (leb (l .segments) count) SegmentLimit Accepted (both .0)); kept = both .1 }
 
 -- ---- a train: 20, then 22, then its own lines
 
-module _ (l : Limits) (count total : ℕ) (t : Train) where
-  pub no-segment : count ≡ 0 → trainAnswer l count total t ≡ Refused NoSegment
-  unfolding trainAnswer unless
+module _ (l : Limits) (count total : ℕ) where
+  pub no-segment : count ≡ 0 → trainLimit l count total ≡ Refused NoSegment
+  unfolding trainLimit unless
   no-segment e = simp (eq-eqb count 0 e)
 
-  pub entries-full : (count ≡ 0 → ⊥) → l .entries ≤ total → trainAnswer l count total t ≡ Refused EntryLimit
-  unfolding trainAnswer unless
+  pub entries-full : (count ≡ 0 → ⊥) → l .entries ≤ total → trainLimit l count total ≡ Refused EntryLimit
+  unfolding trainLimit unless
   entries-full some h = simp (ne-eqb count 0 some, le-leb (l .entries) total h)
 
-  pub entries-room : (count ≡ 0 → ⊥) → total < l .entries → trainAnswer l count total t ≡ trainCheck t
-  unfolding trainAnswer unless
+  pub entries-room : (count ≡ 0 → ⊥) → total < l .entries → trainLimit l count total ≡ Accepted
+  unfolding trainLimit unless
   entries-room some h = simp (ne-eqb count 0 some, lt-leb (l .entries) total h)
 
+module _ (l : Limits) (count total : ℕ) (t : Train) where
   pub record TrainTaken : Type 0 where
     pub some : count ≡ 0 → ⊥
     pub room : total < l .entries
     pub kept : trainCheck t ≡ Accepted
 
   pub train-taken : trainAnswer l count total t ≡ Accepted → TrainTaken
-  unfolding trainAnswer
+  unfolding trainAnswer trainLimit
   train-taken e =
-      let rest = kept-rest (eqb count 0) NoSegment _ e in
+      let both = both-accept (trainLimit l count total) (trainCheck t) e in
+      let rest = kept-rest (eqb count 0) NoSegment _ (both .0) in
       record {
-        some = eqb-false count 0 (kept-first (eqb count 0) NoSegment _ e);
-        room = leb-false (l .entries) total (kept-first (leb (l .entries) total) EntryLimit _ rest);
-        kept = kept-rest (leb (l .entries) total) EntryLimit (trainCheck t) rest;
+        some = eqb-false count 0 (kept-first (eqb count 0) NoSegment _ (both .0));
+        room = leb-false (l .entries) total (kept-first (leb (l .entries) total) EntryLimit Accepted rest);
+        kept = both .1;
       }

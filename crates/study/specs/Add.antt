@@ -9,7 +9,7 @@ use Rattle.steps.specs.declared.Train.{Train}
 use Rattle.steps.specs.declared.Refusal.the-variants.{NoSegment, SegmentLimit, EntryLimit}
 use Rattle.steps.specs.declared.Check.{Check}
 use Rattle.steps.specs.declared.Check.the-variants.{Accepted, Refused}
-use Rattle.steps.specs.Refusal.{unless}
+use Rattle.steps.specs.Refusal.{unless, firstRefused}
 use Rattle.steps.specs.Rules.{segmentCheck, trainCheck}
 use Rattle.study.specs.declared.Study.{Study}
 use Rattle.study.specs.declared.Added.{Added}
@@ -22,13 +22,21 @@ pub record Limits : Type 0 where
 abbrev pub ours : Limits
 ours = record { segments = 24; entries = 96 }
 
--- with so many segments held: 21, then the segment's own lines
-unfoldable pub segmentAnswer : Limits → ℕ → Segment → Check
-segmentAnswer l count s = unless (not (leb (l .segments) count)) SegmentLimit (segmentCheck s)
+-- 21: with so many segments held, none may be added
+unfoldable pub segmentLimit : Limits → ℕ → Check
+segmentLimit l count = unless (not (leb (l .segments) count)) SegmentLimit Accepted
 
--- with so many segments and entries held: 20, then 22, then the train's own lines
+-- "These come first": the state's refusal, then the segment's own lines
+unfoldable pub segmentAnswer : Limits → ℕ → Segment → Check
+segmentAnswer l count s = firstRefused (segmentLimit l count) (segmentCheck s)
+
+-- 20 without a segment, then 22: with so many entries held, none may be added
+unfoldable pub trainLimit : Limits → ℕ → ℕ → Check
+trainLimit l count total = unless (not (eqb count 0)) NoSegment (unless (not (leb (l .entries) total)) EntryLimit Accepted)
+
+-- likewise, then the train's own lines
 unfoldable pub trainAnswer : Limits → ℕ → ℕ → Train → Check
-trainAnswer l count total t = unless (not (eqb count 0)) NoSegment (unless (not (leb (l .entries) total)) EntryLimit (trainCheck t))
+trainAnswer l count total t = firstRefused (trainLimit l count total) (trainCheck t)
 
 -- the study with the segment after its last
 unfoldable pub withSegment : Study → Segment → Study

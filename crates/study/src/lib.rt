@@ -3,7 +3,7 @@ pub mod request;
 
 ghost use mathlib.Core.Path.{_≡_};
 ghost use Rattle.study.specs.Plan.{emptyStudy};
-ghost use Rattle.study.specs.Add.{ours, segmentAnswer, trainAnswer, addSegment, addTrain};
+ghost use Rattle.study.specs.Add.{ours, segmentLimit, segmentAnswer, trainLimit, trainAnswer, addSegment, addTrain};
 use steps::Check;
 use steps::Refusal;
 use steps::Segment;
@@ -68,14 +68,22 @@ pub fn empty() -> Study
     }
 }
 
-// Whether a segment may be added to so many: the limit, then its own lines.
-fn segment_answer(count: usize, segment: Segment) -> Check
-    ensures { λ r. ⌜ r ≡ segmentAnswer ours count segment ⌝ }
+// Whether so many segments leave room for one more.
+fn segment_limit(count: usize) -> Check
+    ensures { λ r. ⌜ r ≡ segmentLimit ours count ⌝ }
 {
     if 24 <= count {
         return Check::Refused(Refusal::SegmentLimit);
     }
-    steps::checks::segment_check(segment)
+    Check::Accepted
+}
+
+// Whether a segment may be added to so many: the limit, then its own lines.
+pub fn segment_answer(count: usize, segment: Segment) -> Check
+    ensures { λ r. ⌜ r ≡ segmentAnswer ours count segment ⌝ }
+{
+    let limit = segment_limit(count);
+    steps::first_refused(limit, steps::checks::segment_check(segment))
 }
 
 // The study with the segment after its last, or the refusal and the study as it was.
@@ -91,9 +99,9 @@ pub fn add_segment(mut study: Study, segment: Segment) -> Added
     Added { study, check }
 }
 
-// Whether a train may be added to so many segments and entries: the last segment, the limit, then its own lines.
-fn train_answer(count: usize, total: usize, train: Train) -> Check
-    ensures { λ r. ⌜ r ≡ trainAnswer ours count total train ⌝ }
+// Whether there is a segment, and so many entries leave room for one more.
+fn train_limit(count: usize, total: usize) -> Check
+    ensures { λ r. ⌜ r ≡ trainLimit ours count total ⌝ }
 {
     if count == 0 {
         return Check::Refused(Refusal::NoSegment);
@@ -101,7 +109,15 @@ fn train_answer(count: usize, total: usize, train: Train) -> Check
     if 96 <= total {
         return Check::Refused(Refusal::EntryLimit);
     }
-    steps::checks::train_check(train)
+    Check::Accepted
+}
+
+// Whether a train may be added to so many segments and entries: the last segment, the limit, then its own lines.
+pub fn train_answer(count: usize, total: usize, train: Train) -> Check
+    ensures { λ r. ⌜ r ≡ trainAnswer ours count total train ⌝ }
+{
+    let limit = train_limit(count, total);
+    steps::first_refused(limit, steps::checks::train_check(train))
 }
 
 // The study with the train at its last segment, or the refusal and the study as it was.

@@ -16,12 +16,12 @@ use Rattle.steps.specs.declared.Refusal.{Refusal}
 use Rattle.steps.specs.declared.Refusal.the-variants as R
 use Rattle.steps.specs.declared.Check.{Check}
 use Rattle.steps.specs.declared.Check.the-variants.{Accepted, Refused}
-use Rattle.steps.specs.Refusal.{numberOf, checkNumber, unless}
+use Rattle.steps.specs.Refusal.{numberOf, checkNumber, unless, firstRefused}
 use Rattle.steps.specs.Rules.{segmentCheck, trainCheck, distanceKept, heightsKept, softKept, anglesKept, screenKept, shadowKept, readingsKept, rowKept, speedKept, vehiclesKept, trainsKept}
 use Rattle.study.specs.declared.Study.{Study}
 use Rattle.study.specs.declared.Added.{Added}
 use Rattle.study.specs.Plan.{emptyStudy}
-use Rattle.study.specs.Add.{Limits, segmentAnswer, trainAnswer, withSegment, withTrain, answer, addSegment, addTrain}
+use Rattle.study.specs.Add.{Limits, segmentLimit, segmentAnswer, trainLimit, trainAnswer, withSegment, withTrain, answer, addSegment, addTrain}
 use Rattle.text.specs.Numbers.{front, numbersOf}
 use Rattle.text.specs.Lines.{segmentOf, trainOf}
 use Rattle.text.specs.Contents.{Read, refused, counts, isCount, countsIn, sumOf, between, inAll, contentsIn, contentsOf}
@@ -98,14 +98,14 @@ module _ (l : Limits) (st : Study) (ps : List Kind) where
   malformed-fine = (omega arith, λ e. never e)
 
   segment-fine : Room l st (K.Segment ∷ ps) → (s : Segment) → Fine l ps (addSegment l st s)
-  unfolding addSegment segmentAnswer withSegment unless
+  unfolding addSegment segmentAnswer segmentLimit withSegment unless firstRefused
   segment-fine h s =
       rw (lt-leb (l .segments) (st .count) (omega (arith, h .segments)))
       (answer-fine (segmentCheck s) (withSegment st s) (segment-own s)
       (record { segments = omega (arith, h .segments); entries = h .entries; begun = led (st .count + 1) ps (omega arith) }))
 
   train-fine : Room l st (K.Train ∷ ps) → (t : Train) → Fine l ps (addTrain l st t)
-  unfolding addTrain trainAnswer withTrain unless
+  unfolding addTrain trainAnswer trainLimit withTrain unless firstRefused
   train-fine h t =
       rw (ne-eqb (st .count) 0 (omega (arith, h .begun)), lt-leb (l .entries) (st .total) (omega (arith, h .entries)))
       (answer-fine (trainCheck t) (withTrain st t) (train-own t)
