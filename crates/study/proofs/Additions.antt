@@ -28,6 +28,15 @@ module _ {got check : Check} (e : got ≡ check) (old new : Study) where
   unfolding answer
   accepted-takes q = rw (← e, q)
 
+module _ {check : Check} (old new : Study) where
+  pub accepted-study : check ≡ Accepted → answer check old new .study ≡ new
+  unfolding answer
+  accepted-study q = rw q
+
+  pub refused-study : {r : Refusal} → check ≡ Refused r → answer check old new .study ≡ old
+  unfolding answer
+  refused-study q = rw q
+
 -- a statement of an answer's study, from those of its two cases
 pub by-answer : (P : Study → Type 0) (check : Check) (old new : Study) → P old → (check ≡ Accepted → P new) → P (answer check old new .study)
 unfolding answer

@@ -1,6 +1,8 @@
 pub mod Additions
 pub mod Runs
 pub mod Plans
+pub mod Listed
+pub mod Remaining
 pub mod Sizes
 pub mod Found
 pub mod Cells

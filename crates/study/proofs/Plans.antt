@@ -68,7 +68,7 @@ module _ (l : Limits) (p : Plan) (held : Held l p) where
         entries = each-append entry (held .entries) (record { segment = omega (arith, taken .some); train = taken .kept });
       }
 
-  extend-held : (a : Addition) → Held l (extend l p a)
+  pub extend-held : (a : Addition) → Held l (extend l p a)
   unfolding extend
   extend-held (segment s) = by-kept (Held l) (segmentAnswer l (length (p .segments)) s) p _ held (segment-held s)
   extend-held (train t) = by-kept (Held l) (trainAnswer l (length (p .segments)) (length (p .entries)) t) p _ held (train-held t)
@@ -88,13 +88,13 @@ segment-kept plan held k h = each-at (held .segments) k noSegment h
 
 -- ---- the additions that are not refused
 
-refused-stays : (l : Limits) (p : Plan) (a : Addition) (r : Refusal) → checkOf l p a ≡ Refused r → extend l p a ≡ p
+pub refused-stays : (l : Limits) (p : Plan) (a : Addition) (r : Refusal) → checkOf l p a ≡ Refused r → extend l p a ≡ p
 unfolding extend checkOf kept
 refused-stays l p (segment s) r e = rw e
 refused-stays l p (train t) r e = rw e
 
 -- a statement of the additions kept of a list, from those of its two cases
-by-one : (P : List Addition → Type 0) (check : Check) (a : Addition) (rest : List Addition) → (check ≡ Accepted → P (a ∷ rest)) → ((r : Refusal) → check ≡ Refused r → P rest) → P (keptOne check a rest)
+pub by-one : (P : List Addition → Type 0) (check : Check) (a : Addition) (rest : List Addition) → (check ≡ Accepted → P (a ∷ rest)) → ((r : Refusal) → check ≡ Refused r → P rest) → P (keptOne check a rest)
 unfolding keptOne
 by-one P Accepted a rest f g = f refl
 by-one P (Refused r) a rest f g = g r refl

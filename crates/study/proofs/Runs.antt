@@ -51,7 +51,7 @@ unfolding runFrom
 from-sized l [] st sized = sized
 from-sized l (a ∷ rest) st sized = from-sized l rest (step l st a) (step-sized l st sized a)
 
-empty-sized : (l : Limits) → Sized l emptyStudy
+pub empty-sized : (l : Limits) → Sized l emptyStudy
 unfolding emptyStudy
 empty-sized l = record { count = omega arith; total = omega arith; places = refl; rows = refl }
 
@@ -63,10 +63,10 @@ run-sized l additions = from-sized l additions emptyStudy (empty-sized l)
 -- ---- the study's plan
 
 module _ (l : Limits) (roomy : Roomy l) (st : Study) (sized : Sized l st) where
-  placed-length : length (take (st .count) (st .segments)) ≡ st .count
+  pub placed-length : length (take (st .count) (st .segments)) ≡ st .count
   placed-length = length-take-le (st .count) (st .segments) (omega (arith, sized .places, sized .count, roomy .segments))
 
-  rows-length : length (take (st .total) (st .entries)) ≡ st .total
+  pub rows-length : length (take (st .total) (st .entries)) ≡ st .total
   rows-length = length-take-le (st .total) (st .entries) (omega (arith, sized .rows, sized .total, roomy .entries))
 
 plan-by : (check : Check) (old new : Study) (q : Plan) → (check ≡ Accepted → planOf new ≡ q) → planOf (answer check old new .study) ≡ kept check (planOf old) q
@@ -74,7 +74,7 @@ unfolding answer kept
 plan-by Accepted old new q h = h refl
 plan-by (Refused r) old new q h = refl
 
-step-plan : (l : Limits) → Roomy l → (st : Study) → Sized l st → (a : Addition) → planOf (step l st a) ≡ extend l (planOf st) a
+pub step-plan : (l : Limits) → Roomy l → (st : Study) → Sized l st → (a : Addition) → planOf (step l st a) ≡ extend l (planOf st) a
 unfolding step extend addSegment addTrain planOf withSegment withTrain
 step-plan l roomy st sized (segment s) =
     rw (placed-length l roomy st sized)

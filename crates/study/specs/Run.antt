@@ -1,8 +1,10 @@
 -- A list of additions from the empty study, refused ones in it (01, "Contracts and evidence"): the study that it makes, and what the list alone says was accepted.
 -- Assumes nothing.
 use mathlib.Core.Path.{_≡_}
+use mathlib.Core.Bool.{cond}
 use mathlib.Core.List.{List, [], _∷_, _++_}
-use Prim.Native.Nat.{ℕ, _-_, _≤_, _<_}
+use Prim.Native.Nat.{ℕ, _+_, _-_, _≤_, _<_}
+use lib.Dec.{eqb}
 use lib.ListN.{length}
 use Rattle.steps.specs.declared.Segment.{Segment}
 use Rattle.steps.specs.declared.Train.{Train}
@@ -95,3 +97,16 @@ keptOne (Refused r) a rest = rest
 unfoldable pub acceptedOnly : Limits → Plan → List Addition → List Addition
 acceptedOnly l p [] = []
 acceptedOnly l p (a ∷ rest) = keptOne (checkOf l p a) a (acceptedOnly l (extend l p a) rest)
+
+-- ---- a plan as a list of additions: each segment, and after it the trains of its entries, in order
+
+unfoldable pub trainsOf : ℕ → List Entry → List Addition
+trainsOf k [] = []
+trainsOf k (e ∷ es) = cond (eqb (e .segment) k) (train (e .train) ∷ trainsOf k es) (trainsOf k es)
+
+unfoldable pub listedFrom : ℕ → List Segment → List Entry → List Addition
+listedFrom k [] es = []
+listedFrom k (s ∷ ss) es = segment s ∷ (trainsOf k es ++ listedFrom (k + 1) ss es)
+
+unfoldable pub listed : Plan → List Addition
+listed p = listedFrom 0 (p .segments) (p .entries)

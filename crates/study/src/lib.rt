@@ -2,8 +2,9 @@
 pub mod request;
 
 ghost use mathlib.Core.Path.{_≡_};
-ghost use Rattle.study.specs.Plan.{emptyStudy};
+ghost use Rattle.study.specs.Plan.{emptyStudy, planOf};
 ghost use Rattle.study.specs.Add.{ours, segmentLimit, segmentAnswer, trainLimit, trainAnswer, addSegment, addTrain};
+ghost use Rattle.study.specs.Run.{run, listed};
 use steps::Check;
 use steps::Refusal;
 use steps::Segment;
@@ -78,7 +79,7 @@ fn segment_limit(count: usize) -> Check
     Check::Accepted
 }
 
-// Whether a segment may be added to so many: the limit, then its own lines.
+// Whether a segment may be added to so many: 21 at the limit, then its own lines.
 pub fn segment_answer(count: usize, segment: Segment) -> Check
     ensures { λ r. ⌜ r ≡ segmentAnswer ours count segment ⌝ }
 {
@@ -112,7 +113,7 @@ fn train_limit(count: usize, total: usize) -> Check
     Check::Accepted
 }
 
-// Whether a train may be added to so many segments and entries: the last segment, the limit, then its own lines.
+// Whether a train may be added to so many segments and entries: 20 without a segment, 22 at the limit, then its own lines.
 pub fn train_answer(count: usize, total: usize, train: Train) -> Check
     ensures { λ r. ⌜ r ≡ trainAnswer ours count total train ⌝ }
 {
@@ -135,4 +136,44 @@ pub fn add_train(mut study: Study, train: Train) -> Added
         study.total = at + 1;
     }
     Added { study, check }
+}
+
+// The study of these segments and entries, added one after another: each segment, then the trains of its entries.
+pub fn study_of(segments: [Segment; 24], count: usize, entries: [Entry; 96], total: usize) -> Study
+    ensures { λ r. ⌜ r ≡ run ours (listed (planOf (record { segments = segments; count = count; entries = entries; total = total }))) ⌝ }
+{
+    // No more than the arrays hold, whatever the counts say.
+    let places = if count < 24 { count } else { 24 };
+    let rows = if total < 96 { total } else { 96 };
+    let mut study = empty();
+    let mut k: usize = 0;
+    while k < places {
+        let segment = segments[k];
+        let place = study.count;
+        let check = segment_answer(place, segment);
+        if let Check::Accepted = check {
+            study.segments[place] = segment;
+            study.count = place + 1;
+        }
+        let mut i: usize = 0;
+        while i < rows {
+            let entry = entries[i];
+            if entry.segment == k {
+                let held = study.count;
+                let row = study.total;
+                let train = entry.train;
+                let answer = train_answer(held, row, train);
+                if let Check::Accepted = answer {
+                    study.entries[row] = Entry {
+                        segment: held - 1,
+                        train: train,
+                    };
+                    study.total = row + 1;
+                }
+            }
+            i += 1;
+        }
+        k += 1;
+    }
+    study
 }
