@@ -15,7 +15,7 @@ micro r = pos 100000 *ℤ r
 unfoldable pub tie : ℤ → ℤ
 tie r = micro r -ℤ pos 50000
 
--- the nearest tenth of a fence, halves up
+-- the nearest tenth of a fence, halves up (memorandum, paragraph 8, footnote 3)
 unfoldable pub nearest : ℤ → ℤ
 nearest f = shrZ (f +ℤ pos 50000) 100000
 
@@ -47,7 +47,7 @@ pub record Near (lo hi : ℕ) (r f : ℤ) : Type 0 where
 
 -- ---- the verdict
 
--- tenths to the nearest whole decibel, halves up
+-- tenths to the nearest whole decibel, halves up, as a limit is compared
 unfoldable pub wholeDecibels : ℤ → ℤ
 wholeDecibels r = shrZ (r +ℤ pos 5) 10
 

@@ -9,7 +9,7 @@ ghost use lib.IntN.{pos, subℕ};
 ghost use lib.Signed.{_≤ℤ_};
 ghost use Rattle.decibel.specs.Greatest;
 ghost use Rattle.decibel.specs.Greatest.{wholeRoot};
-ghost use Rattle.decibel.specs.Fine.{fineLarge, fineLogAt, tenfoldsOf};
+ghost use Rattle.decibel.specs.Fine.{FineLog, fineLarge, fineLogAt, tenfoldsOf};
 ghost use Rattle.decibel.specs.Lookup.{tenLog, distance, shadow, illuminated, tenthsAt, Placed, Answer, Whole, Billionths};
 ghost use Rattle.decibel.specs.Sine.{sineOf, sineAt, cosineAt};
 ghost use Rattle.decibel.specs.Table.{Ranked, Holds};
@@ -162,7 +162,8 @@ fn fine_large(t: &[u64], n: u64) -> u64
 
 // 10 · log n in microdecibels, at most 501 too high.
 pub fn fine_log(t: &[u64], n: u64) -> u64
-    ensures { λ r. ⌜ Whole 100000000 (now (t .entry)) (fineLogAt n) r ⌝ }
+    ensures is { λ r. ⌜ Whole 100000000 (now (t .entry)) (fineLogAt n) r ⌝ }
+    ensures accurate { λ r. ⌜ FineLog (Greatest.clamp 1 3200000000 n) (fineLogAt n) ⌝ }
 {
     if t.len() != 1610 {
         return 0;

@@ -8,18 +8,18 @@ use native.Mathlib.Nat.{le-trans, lt-irrefl, pos-of-ne-zero}
 use native.Mathlib.Omega.{arith}
 use lib.Dec.{ltb}
 use lib.IntN.{ℤ}
-use lib.ListN.{length, getD}
+use lib.ListN.{length, getD, take, length-take}
 use Rattle.decibel.specs.Round.{byMark}
 use Rattle.decibel.specs.Table.{Ranked}
 use Rattle.decibel.specs.declared.Level.the-variants.{Silent, Figure}
 use Rattle.energy.specs.declared.Total.{Total}
 use Rattle.energy.specs.Energy.{bareAt}
-use Rattle.energy.specs.Total.{energies, totalBy, heard}
+use Rattle.energy.specs.Total.{energies, totalBy, heard, TotalMark}
 use Rattle.energy.specs.Mark.{loudestOf, weighed, endOf, passedOf, totalMark, totalOf}
 use Rattle.energy.specs.Parts.{part, Tables, figureAt}
 use Rattle.energy.proofs.Weighing.{unit}
 use Rattle.energy.proofs.Levels.{Kept, loudest-some, weighed-most}
-use Rattle.energy.proofs.Named.{total-figure}
+use Rattle.energy.proofs.Named.{total-figure, total-allowed}
 use Rattle.energy.proofs.Cells.{heard-kept, heard-few}
 use Rattle.energy.proofs.Lent.{end-read, passed-read, passed-few, opened}
 
@@ -58,3 +58,7 @@ module _ (cells : List ℤ) where
         let inside : k < 199 = passed-few ranked (opened xs t .begins .size) in
         ap₂ (λ (x : ℤ) (m : Bool). record { level = Figure x; close = m }) (figure ∙ ap₂ figureAt loud k-is) (ap₂ ltb w-is (end-read xs t k (omega arith) ∙ ap endOf k-is))
         ∙ named
+
+-- 01 allows the program's own mark, whatever the cells
+pub mark-allowed : (cells : List ℤ) → TotalMark (heard (take 96 cells)) (totalMark (heard (take 96 cells)))
+mark-allowed cells = total-allowed (heard (take 96 cells)) (le-trans (heard-few (take 96 cells)) (omega (arith, length-take 96 cells))) (heard-kept (take 96 cells))

@@ -7,8 +7,8 @@ ghost use mathlib.Core.Bool.{false};
 ghost use Prim.Native.Nat.{_≤_};
 ghost use lib.ListN.{length, take};
 ghost use Rattle.decibel.specs.declared.Level.the-variants.{Silent};
-ghost use Rattle.energy.specs.Total.{heard};
-ghost use Rattle.energy.specs.Mark.{loudestOf, weightOf, weighed, totalOf};
+ghost use Rattle.energy.specs.Total.{heard, TotalMark};
+ghost use Rattle.energy.specs.Mark.{loudestOf, weightOf, weighed, totalMark, totalOf};
 ghost use Rattle.energy.specs.Parts.{Tables, Bounded, heightAt, weightAt, figureAt};
 use decibel::Level;
 use decibel::rank;
@@ -144,7 +144,8 @@ fn bounded_total(t: &[u64], cells: &[i32]) -> Total
 
 // The total of the levels in up to 96 working cells; further cells are not read.
 pub fn total_of(t: &[u64], cells: &[i32]) -> Total
-    ensures { λ r. ⌜ (Tables (now (t .entry)) → r ≡ totalOf (heard (take 96 (now (cells .entry))))) ⌝ }
+    ensures is { λ r. ⌜ (Tables (now (t .entry)) → r ≡ totalOf (heard (take 96 (now (cells .entry))))) ⌝ }
+    ensures allowed { λ r. ⌜ TotalMark (heard (take 96 (now (cells .entry)))) (totalMark (heard (take 96 (now (cells .entry))))) ⌝ }
 {
     if t.len() != 516 {
         return silent();

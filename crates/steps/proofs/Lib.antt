@@ -7,6 +7,7 @@ pub mod Emission
 pub mod Angle
 pub mod Near
 pub mod Air
+pub mod Allowed
 pub mod Lies
 pub mod Loud
 pub mod Readings

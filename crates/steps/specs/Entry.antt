@@ -17,7 +17,7 @@ use Rattle.steps.specs.Rules.{segmentCheck, trainCheck}
 use Rattle.steps.specs.Step.{distanceFence, airFence, pathFence, angleFence, oppositeFence, facadeTenths, rollingTenths, speedFence, vehiclesFence, trainsFence, trainsIn}
 use Rattle.steps.specs.Ground.{groundMark}
 
--- ---- a segment: five steps, the facade and the readings of Chart 6(c), Table 1 and ballast
+-- ---- a segment: five steps, the facade and the readings of Chart 6(c) (paragraph 24), Table 1 (paragraph 16) and ballast (paragraph 22)
 
 unfoldable pub readings : Segment → ℤ
 readings s = facadeTenths s +ℤ (s .chart +ℤ (s .track +ℤ s .ballast))

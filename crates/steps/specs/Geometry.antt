@@ -24,12 +24,12 @@ slantSquare s = slant (s .distance) (s .height)
 unfoldable pub lengthOf : ℕ → ℕ
 lengthOf n = wholeRoot 2 (10000000000 * n)
 
--- δ: source to screen top and top to window, less source to window, never below zero
+-- δ (paragraph 24, Figure 4): source to screen top and top to window, less source to window, never below zero
 unfoldable pub pathDifference : Segment → ℕ
 pathDifference s =
     lengthOf (slant (s .setback) (s .top)) + lengthOf (slant (s .distance -ℤ s .setback) (s .height -ℤ s .top))
     - lengthOf (slantSquare s)
 
--- the window is in shadow: b · d is at least h · D
+-- the window is in the shadow zone (paragraph 24, Figure 4): b · d is at least h · D
 unfoldable pub inShadow : Segment → Bool
 inShadow s = leZ (s .height *ℤ s .setback) (s .top *ℤ s .distance)

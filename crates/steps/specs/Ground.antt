@@ -9,6 +9,8 @@ use Rattle.decibel.specs.Fine.{fineLogAt}
 use Rattle.decibel.specs.Log.{AtLeast, AtMost}
 use Rattle.decibel.specs.Round.{MarkAllowed}
 use Rattle.steps.specs.declared.Segment.{Segment}
+use Rattle.steps.specs.Refusal.{isAccepted}
+use Rattle.steps.specs.Rules.{segmentCheck}
 use Rattle.steps.specs.Step.{groundFactor, grounded}
 
 -- on the exact value of the ground step; a segment where ground does not count is never marked
@@ -26,3 +28,11 @@ attenuation s = (fineLogAt (4 * up (s .distance)) - 40000000) * groundFactor s /
 -- the program's own mark: that attenuation lies at most 0.0015 dB from a tie (`ground-mark-allowed` of proofs/Marks.antt: it is a `GroundMark`)
 unfoldable pub groundMark : Segment → Bool
 groundMark s = cond (grounded s) (leb 48500 (attenuation s % 100000) && leb (attenuation s % 100000) 51500) false
+
+-- the marks that 01 allows a segment: its ground step's, and none where the segment is refused
+unfoldable pub SegmentMarkBy : Bool → Segment → Bool → Type 0
+SegmentMarkBy true s mark = GroundMark s mark
+SegmentMarkBy false s mark = mark ≡ false
+
+unfoldable pub SegmentMark : Segment → Bool → Type 0
+SegmentMark s mark = SegmentMarkBy (isAccepted (segmentCheck s)) s mark

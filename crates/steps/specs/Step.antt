@@ -43,7 +43,7 @@ grounded s = cond (unscreened s) (ltb 2500 (up (s .distance))) false
 unfoldable pub groundFence : Segment → ℤ
 groundFence s = fence 0 (groundFactor s) 2500 (up (s .distance))
 
--- the screen's formula, δ in ten-millionths of a metre: in shadow (Chart 6(a)) -7.75 log(5.2 + 203 δ);
+-- the screen's formula (paragraph 24), δ in ten-millionths of a metre: in shadow (Chart 6(a)) -7.75 log(5.2 + 203 δ);
 -- illuminated (Chart 6(b)) 0.88 + 2.14 log(δ + 0.001) up to 0.4 m, beyond it 0
 unfoldable pub screenFormula : Bool → ℕ → ℤ
 screenFormula true m = fence 0 7750000 10000000 (52000000 + 203 * m)
@@ -56,7 +56,7 @@ screenFence s = screenFormula (inShadow s) (pathDifference s)
 unfoldable pub pathFence : Segment → ℤ
 pathFence s = cond (unscreened s) (cond (grounded s) (groundFence s) (pos 0)) (screenFence s)
 
--- y in billionths: the arc cut down, less sin θ times cos a cut toward zero
+-- y of Chart 7 (paragraph 30, Figure 9) in billionths: the arc cut down, less sin θ times cos a cut toward zero
 unfoldable pub yOf : ℕ → ℕ → ℤ
 yOf view doubled = pos (3141592654 * view / 180) -ℤ quotZ (sineAt view *ℤ cosineAt doubled) (pos 1000000000)
 
@@ -74,7 +74,7 @@ facadeTenths s = cond (within (pos 1) (pos 1) (s .facade)) (pos 25) (pos 0)
 
 -- ---- a train
 
--- Table A1.1's rolling figures, in tenths, in its order
+-- Table A1.1's rolling figures (paragraph 14), in tenths, in its order
 unfoldable pub rollings : List ℕ
 rollings =
     148 ∷ 148 ∷ 167 ∷ 108 ∷ 108 ∷ 129 ∷ 71 ∷ 60 ∷ 60 ∷ 113 ∷ 84 ∷ 84 ∷ 70 ∷ 70 ∷ 158 ∷ 149 ∷ 120 ∷ 150 ∷ 80 ∷ 75 ∷ 148 ∷ 166 ∷ 148 ∷ 166 ∷ 180 ∷ 166 ∷ 166 ∷ 166 ∷ 166 ∷ 148 ∷ 148 ∷ 148 ∷ 148 ∷ 148 ∷ []
@@ -87,7 +87,7 @@ rollingTenths t = pos (getD rollings (up (t .row) - 1) 0)
 unfoldable pub countedSpeed : Train → ℕ
 countedSpeed t = up (t .speed)
 
--- speed (Chart A1.1): 31.2 + 20 log V
+-- speed (Chart A1.1, paragraph 14): 31.2 + 20 log V
 unfoldable pub speedFence : Train → ℤ
 speedFence t = fence 31200000 20000000 (countedSpeed t) 1
 
@@ -100,7 +100,7 @@ unfoldable pub trainsIn : Period → Train → ℕ
 trainsIn Day t = up (t .day)
 trainsIn Night t = up (t .night)
 
--- what a period's hours take off, in tenths: 48.1 by day, 43.3 by night
+-- what a period's hours take off (paragraph 32), in tenths: 48.1 by day, 43.3 by night
 unfoldable pub hoursTenths : Period → ℕ
 hoursTenths Day = 481
 hoursTenths Night = 433

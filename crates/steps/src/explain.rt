@@ -3,6 +3,7 @@ ghost use mathlib.Core.Path.{_≡_};
 ghost use Prim.Native.Nat.{_<_};
 ghost use Rattle.decibel.specs.Tables.{Tables};
 ghost use Rattle.steps.specs.Step.{trainsIn};
+ghost use Rattle.steps.specs.Ground.{SegmentMark};
 ghost use Rattle.steps.specs.Explain.{partsOf, breakdownOf, noTrainParts, trainPartsOf, trainBreakdownOf};
 ghost use Rattle.steps.specs.Parts.{Ranges, TrainRanges};
 use crate::Check;
@@ -55,7 +56,8 @@ fn parts_of(t: &[u64], s: Segment) -> Breakdown
 
 // The parts of a segment's propagation; all zero of a refused segment.
 pub fn breakdown_of(t: &[u64], s: Segment) -> Breakdown
-    ensures { λ r. ⌜ (Tables (now (t .entry)) → r ≡ breakdownOf s) ⌝ }
+    ensures is { λ r. ⌜ (Tables (now (t .entry)) → r ≡ breakdownOf s) ⌝ }
+    ensures allowed { λ r. ⌜ SegmentMark s (breakdownOf s .close) ⌝ }
 {
     match checks::segment_check(s) {
         Check::Accepted => parts_of(t, s),

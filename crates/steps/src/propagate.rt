@@ -10,7 +10,7 @@ ghost use Rattle.decibel.specs.Round.{nearest};
 ghost use Rattle.steps.specs.declared.Check.the-variants.{Accepted};
 ghost use Rattle.steps.specs.Rules.{unscreened, segmentCheck};
 ghost use Rattle.steps.specs.Step.{distanceFence, airFence, groundFactor, screenFormula, screenFence, angleFence, oppositeFence, facadeTenths};
-ghost use Rattle.steps.specs.Ground.{attenuation};
+ghost use Rattle.steps.specs.Ground.{attenuation, SegmentMark};
 ghost use Rattle.steps.specs.Entry.{readings, propagationOf};
 ghost use Rattle.steps.specs.Parts.{Below, Ranges, Tenths, Propagates};
 ghost use Rattle.steps.specs.Path.{Exactly, RootUp, View, PathTenths, Along};
@@ -218,7 +218,8 @@ fn accepted(t: &[u64], s: Segment) -> Propagation
 
 // A segment's tenths and its ground's close mark; nothing of a refused segment.
 pub fn propagation_of(t: &[u64], s: Segment) -> Propagation
-    ensures { λ r. ⌜ Propagates (now (t .entry)) (propagationOf s) r ⌝ }
+    ensures is { λ r. ⌜ Propagates (now (t .entry)) (propagationOf s) r ⌝ }
+    ensures allowed { λ r. ⌜ SegmentMark s (propagationOf s .close) ⌝ }
 {
     match crate::checks::segment_check(s) {
         Check::Accepted => accepted(t, s),

@@ -12,22 +12,15 @@ use Rattle.energy.specs.declared.Total.{Total}
 use Rattle.energy.specs.Total.{heard, TotalMark}
 use Rattle.energy.specs.Mark.{totalMark, totalOf}
 use Rattle.energy.proofs.Named.{total-allowed}
-use Rattle.steps.specs.declared.Segment.{Segment}
 use Rattle.steps.specs.declared.Propagation.{Propagation}
 use Rattle.steps.specs.declared.Period.{Period}
 use Rattle.steps.specs.declared.Period.the-variants.{Day, Night}
-use Rattle.steps.specs.declared.Check.{Check}
-use Rattle.steps.specs.declared.Check.the-variants.{Accepted, Refused}
-use Rattle.steps.specs.Refusal.{isAccepted}
-use Rattle.steps.specs.Rules.{segmentCheck}
-use Rattle.steps.specs.Ground.{groundMark}
-use Rattle.steps.specs.Entry.{segmentTenths, propagationOf}
+use Rattle.steps.specs.Ground.{SegmentMark}
 use Rattle.study.specs.declared.request.PeriodResult.{PeriodResult}
 use Rattle.study.specs.Plan.{Plan, segmentAt}
-use Rattle.study.specs.Levels.{levelsOf, levelAt, figures, totalMarkIn, groundMarks, ownMarks, closeSegments, metBy, resultFrom, resultBy, SegmentMark, SegmentMarkBy, MarksAllowed}
+use Rattle.study.specs.Levels.{levelsOf, levelAt, figures, totalMarkIn, groundMarks, ownMarks, closeSegments, metBy, resultFrom, resultBy, MarksAllowed}
 use Rattle.study.specs.Parts.{noPropagation, Propagated, SegmentsHeard, CloseCount}
-use Rattle.steps.proofs.Kept.{ranges}
-use Rattle.steps.proofs.Marks.{ground-mark-allowed}
+use Rattle.steps.proofs.Allowed.{own-mark-allowed}
 use Rattle.study.proofs.Cells.{cellsOf, cells-length}
 use Rattle.study.proofs.Totals.{figures-kept, figures-few, cells-heard, cells-sound}
 use Rattle.study.proofs.Counts.{own-marks, close-found}
@@ -66,14 +59,6 @@ module _ (p : Period) (plan : Plan) where
 
 -- ---- the marks
 
-own-segment-mark : (s : Segment) → SegmentMark s (propagationOf s .close)
-unfolding SegmentMark SegmentMarkBy propagationOf isAccepted
-own-segment-mark s = go (segmentCheck s) refl
-  where
-    go : (check : Check) → segmentCheck s ≡ check → SegmentMarkBy (isAccepted check) s (cond {A = Propagation} (isAccepted check) (record { tenths = segmentTenths s (groundMark s); close = groundMark s }) noPropagation .close)
-    go Accepted e = ground-mark-allowed s (ranges s e)
-    go (Refused r) e = refl
-
 own-total-mark : (p : Period) (plan : Plan) → length (plan .entries) ≤ 96 → TotalMark (figures (levelsOf p plan (groundMarks plan))) (totalMark (figures (levelsOf p plan (groundMarks plan))))
 unfolding levelsOf
 own-total-mark p plan few =
@@ -84,7 +69,7 @@ pub own-allowed : (plan : Plan) → length (plan .entries) ≤ 96 → MarksAllow
 unfolding ownMarks levelsOf levelAt
 own-allowed plan few =
     record {
-      grounds = λ k h. subst (SegmentMark (segmentAt plan k)) (sym (own-marks plan k)) (own-segment-mark (segmentAt plan k));
+      grounds = λ k h. subst (SegmentMark (segmentAt plan k)) (sym (own-marks plan k)) (own-mark-allowed (segmentAt plan k));
       day = own-total-mark Day plan few;
       night = own-total-mark Night plan few;
     }

@@ -18,7 +18,7 @@ use Rattle.steps.specs.declared.Period.{Period}
 use Rattle.steps.specs.declared.Period.the-variants.{Day, Night}
 use Rattle.steps.specs.Refusal.{isAccepted}
 use Rattle.steps.specs.Rules.{segmentCheck}
-use Rattle.steps.specs.Ground.{GroundMark}
+use Rattle.steps.specs.Ground.{SegmentMark}
 use Rattle.steps.specs.Entry.{emissionOf, propagationOf, levelBy}
 use Rattle.study.specs.declared.Entry.{Entry}
 use Rattle.study.specs.declared.request.PeriodResult.{PeriodResult}
@@ -80,7 +80,7 @@ closeSegments p plan m = closeFrom p plan m 0 (plan .segments)
 
 -- ---- the period's result
 
--- whole decibels: 68 by day, 63 by night
+-- the specified levels (memorandum, paragraph 3), whole decibels: 68 by day, 63 by night
 unfoldable pub limitOf : Period → ℕ
 limitOf Day = 68
 limitOf Night = 63
@@ -97,13 +97,6 @@ unfoldable pub resultBy : Period → Plan → Marks → PeriodResult
 resultBy p plan m = resultFrom p (totalBy (totalMarkIn p m) (figures (levelsOf p plan m))) (closeSegments p plan m)
 
 -- ---- which marks 01 allows
-
-unfoldable pub SegmentMarkBy : Bool → Segment → Bool → Type 0
-SegmentMarkBy true s mark = GroundMark s mark
-SegmentMarkBy false s mark = mark ≡ false
-
-unfoldable pub SegmentMark : Segment → Bool → Type 0
-SegmentMark s mark = SegmentMarkBy (isAccepted (segmentCheck s)) s mark
 
 pub record MarksAllowed (plan : Plan) (m : Marks) : Type 0 where
   pub grounds : (k : ℕ) → k < length (plan .segments) → SegmentMark (segmentAt plan k) (markAt m k)

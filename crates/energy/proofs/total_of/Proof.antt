@@ -10,6 +10,7 @@ use lib.Seq.{take-all, length-take-le}
 use Rattle.energy.specs.Total.{heard}
 use Rattle.energy.specs.Mark.{totalOf}
 use Rattle.energy.proofs.Lent.{opened}
+use Rattle.energy.proofs.Whole.{mark-allowed}
 use Rattle.energy.proofs.total_of.Statement.{statement}
 use Rattle.energy.proofs.total_of.Tie as tie
 
@@ -17,7 +18,7 @@ silent-requires : tie.Need-silent-requires
 silent-requires c κs = search needs
 
 returns : tie.Need-returns
-returns c = λ t. absurd (c .before .if1 .taken (opened _ t .size))
+returns c = (λ t. absurd (c .before .if1 .taken (opened _ t .size)), mark-allowed (c .before .before .before .args .cells .now))
 
 bounded-total-requires : tie.Need-bounded-total-requires
 bounded-total-requires c κs = search needs
@@ -25,7 +26,7 @@ bounded-total-requires c κs = search needs
 returns-2 : tie.Need-returns-2
 returns-2 c =
     let cells = c .before .before .before .before .args .cells .now in
-    λ t. c .bounded-total .ensures t ∙ ap (λ (xs : List ℤ). totalOf (heard xs)) (sym (take-all 96 cells (omega arith)))
+    (λ t. c .bounded-total .ensures t ∙ ap (λ (xs : List ℤ). totalOf (heard xs)) (sym (take-all 96 cells (omega arith))), mark-allowed cells)
 
 slice-aggregate-bounded-total : tie.Need-slice-aggregate-bounded-total
 slice-aggregate-bounded-total c = sym (length-take-le _ (c .before .before .before .before .args .cells .now) (omega arith))
@@ -36,7 +37,7 @@ bounded-total-requires-2 c κs =
     (omega arith, simp length-take (omega arith))
 
 returns-3 : tie.Need-returns-3
-returns-3 c = search needs
+returns-3 c = (c .bounded-total2 .ensures, mark-allowed (c .before .before .before .before .before .args .cells .now))
 
 pub total-of-spec : {M : Type 1} → statement M
 total-of-spec = tie.close (tie.spec silent-requires returns bounded-total-requires returns-2 slice-aggregate-bounded-total bounded-total-requires-2 returns-3)

@@ -23,7 +23,7 @@ returns c =
     let heard = c .before .before .before .heard-segments in
     let close = c .before .before .close-count in
     period-is (start .args .period) (planOf st) (few-segments st (start .good .1 .0)) (few-entries st (start .good .1 .0)) (start .pre .1 .0) (start .pre .1 .1)
-    (c .before .before .before .before .total-of .ensures (start .pre .0)) (heard .ensures) (close .ensures) (c .before .one .ensures .0) (c .is-met .ensures)
+    (c .before .before .before .before .total-of .ensures .0 (start .pre .0)) (heard .ensures) (close .ensures) (c .before .one .ensures .0) (c .is-met .ensures)
 
 pub period-of-spec : {M : Type 1} → statement M
 period-of-spec =

@@ -52,7 +52,7 @@ loop-again c =
       v .inv .1,
       v .inv .2,
       found-more (planOf st) (v .k) (v .found) (r .result) (omega arith) (v .inv .3)
-          (r .ensures .is (start .pre) ∙ ap propagationOf (sym (plan-segment st (v .k) (omega arith)))) (r .ensures .small),
+          (r .ensures .0 .is (start .pre) ∙ ap propagationOf (sym (plan-segment st (v .k) (omega arith)))) (r .ensures .0 .small),
     )
 
 returns : tie.Need-returns Inv-loop μ-loop
