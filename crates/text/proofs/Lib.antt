@@ -1,4 +1,5 @@
 pub mod Bytes
+pub mod Digits
 pub mod Values
 pub mod Positions
 pub mod Fields

@@ -2,12 +2,12 @@
 -- Assumes nothing.
 use mathlib.Core.Path.{_≡_, refl, sym, ap, _∙_}
 use mathlib.Core.Logic.{⊎-elim, _⊎_, inl, inr}
-use Prim.Native.Nat.{ℕ, suc, _+_, _-_, _^_, _≤_, _<_}
+use Prim.Native.Nat.{ℕ, suc, _+_, _^_, _≤_, _<_}
 use mathlib.Core.List.{List, [], _∷_, map}
 use mathlib.Core.Bool.{Bool, true, false, cond}
 use mathlib.Core.Option.{Option, none, some}
 use native.Mathlib.Omega.{arith}
-use lib.ListN.{length, take, drop, length-drop}
+use lib.ListN.{length, drop, length-drop}
 use lib.Seq.{drop-drop}
 use lib.Dec.{ltb}
 use lib.Signed.{mag}
@@ -18,11 +18,10 @@ use mir.Facts.{toZ-ofZ}
 use borrow.Author.Tests.{le-leb, lt-leb, lt-ltb, le-ltb, ltb-true, ltb-false}
 use Rattle.text.specs.Bytes.{until, split}
 use Rattle.text.specs.Numbers.{valueOf, front, every, numbersOf, numberAs, numberAt}
-use Rattle.text.specs.Parts.{wordAs, numbersFrom}
+use Rattle.text.specs.Parts.{numbersFrom}
 use Rattle.text.specs.declared.numbers.Number.the-variants as N
-use Rattle.text.specs.declared.numbers.Word.{Word}
-use Rattle.text.specs.declared.numbers.Word.the-variants as W
-use Rattle.text.proofs.Bytes.{take-until, split-first}
+use Rattle.text.proofs.Bytes.{split-first}
+use Rattle.text.proofs.Values.{number-past}
 
 pub lt-or-ge : (a b : ℕ) → (a < b) ⊎ (b ≤ a)
 lt-or-ge a b = go (ltb a b) refl
@@ -30,38 +29,6 @@ lt-or-ge a b = go (ltb a b) refl
     go : (t : Bool) → ltb a b ≡ t → (a < b) ⊎ (b ≤ a)
     go true e = inl (ltb-true a b e)
     go false e = inr (ltb-false a b e)
-
--- ---- what `number_at` returns on each way
-
-word-some : (o : Option ℤ) (v : ℤ) → wordAs o ≡ W.Value v → o ≡ some v
-unfolding wordAs
-word-some none v e = cc
-word-some (some m) v e = cc
-
-word-none : (o : Option ℤ) → wordAs o ≡ W.Malformed → o ≡ none
-unfolding wordAs
-word-none none e = refl
-word-none (some m) e = cc
-
-module _ (line : List ℕ) (at : ℕ) where
-  pub number-past : length line < at → N.Malformed ≡ numberAt line at
-  unfolding numberAt
-  number-past h = rw (lt-leb at (length line) h)
-
-  module _ {end : ℕ} {r : Word} (h : at ≤ length line) (e : end ≡ at + length (until 32 (drop at line)))
-      (q : r ≡ wordAs (valueOf (take (end - at) (drop at line)))) where
-    word-is : r ≡ wordAs (valueOf (until 32 (drop at line)))
-    word-is =
-        let k : end - at ≡ length (until 32 (drop at line)) = omega arith in
-        rw (← take-until 32 (drop at line), ← k) q
-
-    pub number-none : r ≡ W.Malformed → N.Malformed ≡ numberAt line at
-    unfolding numberAt numberAs
-    number-none p = rw (le-leb at (length line) h, word-none _ (sym word-is ∙ p))
-
-    pub number-some : (v : ℤ) → r ≡ W.Value v → N.Value v (end + 1) ≡ numberAt line at
-    unfolding numberAt numberAs
-    number-some v p = rw (le-leb at (length line) h, word-some _ v (sym word-is ∙ p), e)
 
 -- ---- what stands at a position
 
@@ -118,7 +85,7 @@ unfolding numberAt numberAs
 stands line at = ⊎-elim past within (lt-or-ge (length line) at)
   where
     past : length line < at → Stands line at
-    past h = nothing h (sym (number-past line at h)) (past-end line at h)
+    past h = nothing h (sym (number-past line at (omega arith))) (past-end line at h)
 
     by : (o : Option ℤ) (n : ℕ) → at ≤ length line → at < n → numberAt line at ≡ numberAs o n → numbersFrom line at ≡ firstThen o (numbersFrom line n) → Stands line at
     by none n h l e f = wrong h e f

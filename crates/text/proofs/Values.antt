@@ -1,152 +1,163 @@
--- Laws of the number that a word is: its digits, its minus, and its value as an i32.
+-- Laws of the number that stands at a position of a line, by its first byte.
 -- Assumes nothing.
-use mathlib.Core.Path.{_≡_, refl}
-use Prim.Native.Nat.{ℕ, zero, suc, _+_, _-_, _*_, _^_, _≤_, _<_}
+use mathlib.Core.Path.{_≡_, refl, sym, ap, _∙_}
+use Prim.Native.Nat.{ℕ, zero, suc, _+_, _≤_, _<_}
 use mathlib.Core.List.{List, [], _∷_}
+use mathlib.Core.Bool.{Bool, true, false, cond}
 use mathlib.Core.Option.{Option, none, some}
-use native.Mathlib.Numerals.{add-one}
 use native.Mathlib.Omega.{arith}
-use native.Mathlib.Nat.{pow-suc, pow-le-pow-right, lt-of-lt-of-le}
-use lib.ListN.{length, getD, take, drop}
-use lib.Seq.{drop-cons, take-all}
-use lib.Dec.{lit<}
-use lib.IntN.{pos, negℤ, _-ℤ_, +ℤ-idl}
+use lib.ListN.{length, getD}
+use lib.Dec.{eqb, leb}
+use lib.IntN.{ℤ, pos, negℤ, _-ℤ_, +ℤ-idl}
 use mir.Syntax.{w32}
 use mir.Val.{SFits, toZ, ofZ}
-use mir.Facts.{toZ-pos, toZ-ofZ}
-use borrow.Author.Tests.{eq-eqb, ne-eqb, le-leb, lt-leb}
-use Rattle.text.specs.declared.numbers.Word.the-variants as W
-use Rattle.text.specs.declared.numbers.Digits.{Digits}
-use Rattle.text.specs.declared.numbers.Digits.the-variants as D
-use Rattle.text.specs.Numbers.{decimal, unsigned, negated, plain, valueOf}
-use Rattle.text.specs.Parts.{digitsAs, DigitsRead, wordAs}
+use mir.Facts.{toZ-ofZ}
+use borrow.Author.Tests.{eq-eqb, ne-eqb, eqb-true, eqb-false, le-leb}
+use Rattle.text.specs.Numbers.{decimal, unsigned, negated, plain, valueOf, numberAs, numberAt}
+use Rattle.text.specs.declared.numbers.Number.{Number}
+use Rattle.text.specs.declared.numbers.Number.the-variants as N
+use Rattle.text.proofs.Bytes.{until-stop, until-end, until-skip}
+use Rattle.text.proofs.Digits.{word, word-more, word-low, word-high, Passed, unsigned-wrong, unsigned-long, unsigned-above, above-some, unsigned-zero, negated-low, signed}
 
--- ---- digits, one at a time
+-- ---- what stands at a position, by its first byte
 
-pub digit-step : (v d i : ℕ) → v < 10 ^ i → d ≤ 9 → v * 10 + d < 10 ^ (i + 1)
-digit-step v d i h l = rw (add-one, pow-suc 10 i) (omega arith)
+pub number-past : (line : List ℕ) (at : ℕ) → length line ≤ at → N.Malformed ≡ numberAt line at
+unfolding numberAt numberAs valueOf
+number-past line at h = rw (until-end 32 line at h) (go (leb at (length line)))
+  where
+    go : (t : Bool) → N.Malformed ≡ cond t N.Malformed N.Malformed
+    go true = refl
+    go false = refl
 
-pub digits-below : (v i k : ℕ) → v < 10 ^ i → i ≤ k → v < 10 ^ k
-digits-below v i k h l = lt-of-lt-of-le h (pow-le-pow-right {n = 10} (lit< tt) {j = k} l)
+module _ (line : List ℕ) (at : ℕ) (h : at < length line) where
+  number-here : numberAt line at ≡ numberAs (valueOf (word line at)) (at + length (word line at) + 1)
+  unfolding numberAt
+  number-here = rw (le-leb at (length line) (omega arith))
 
-module _ (v : ℕ) (w : List ℕ) (i : ℕ) (h : i < length w) where
-  pub decimal-step : 48 ≤ getD w i 0 → getD w i 0 ≤ 57 → decimal v (drop i w) ≡ decimal (v * 10 + (getD w i 0 - 48)) (drop (i + 1) w)
-  unfolding decimal
-  decimal-step a b = rw (add-one, drop-cons w i 0, le-leb 48 (getD w i 0) a, le-leb (getD w i 0) 57 b)
+  -- no digit, and no minus
+  pub number-low : getD line at 0 < 48 → (getD line at 0 ≡ 45 → ⊥) → N.Malformed ≡ numberAt line at
+  unfolding numberAs valueOf plain
+  number-low a m = go (eqb (getD line at 0) 32) refl
+    where
+      go : (t : Bool) → eqb (getD line at 0) 32 ≡ t → N.Malformed ≡ numberAt line at
+      go true e = rw (number-here, until-stop 32 line at h (eqb-true (getD line at 0) 32 e))
+      go false e =
+          let n = eqb-false (getD line at 0) 32 e in
+          let w = word-low line at h 0 n a in
+          rw (number-here, word-more line at h n, ne-eqb (getD line at 0) 45 m, unsigned-wrong _ (rw (word-more line at h n) at w))
 
-  pub decimal-low : getD w i 0 < 48 → decimal v (drop i w) ≡ none
-  unfolding decimal
-  decimal-low a = rw (drop-cons w i 0, lt-leb 48 (getD w i 0) a)
+  module _ (z : getD line at 0 ≡ 48) where
+    pub zero-more : at + 1 < length line → (getD line (at + 1) 0 ≡ 32 → ⊥) → N.Malformed ≡ numberAt line at
+    unfolding numberAs valueOf plain
+    zero-more l n = rw (number-here, word-more line at h (λ q. omega arith), z, word-more line (at + 1) l n, unsigned-zero)
 
-  pub decimal-high : 57 < getD w i 0 → decimal v (drop i w) ≡ none
-  unfolding decimal
-  decimal-high a = rw (drop-cons w i 0, le-leb 48 (getD w i 0) (omega arith), lt-leb (getD w i 0) 57 a)
+    zero-alone : word line (at + 1) ≡ [] → N.Value (pos 0) (at + 1 + 1) ≡ numberAt line at
+    unfolding numberAs valueOf plain unsigned decimal
+    zero-alone e = rw (number-here, word-more line at h (λ q. omega arith), z, e)
 
-module _ (w : List ℕ) where
-  pub unsigned-none : length w ≡ 0 → unsigned w ≡ none
-  unfolding unsigned
-  unsigned-none e = rw (lt-leb 1 (length w) (omega arith))
+    -- at a space, and at the line's end
+    pub zero-stop : at + 1 < length line → getD line (at + 1) 0 ≡ 32 → N.Value (pos 0) (at + 1 + 1) ≡ numberAt line at
+    zero-stop l e = zero-alone (until-stop 32 line (at + 1) l e)
 
-  pub unsigned-long : 5 < length w → unsigned w ≡ none
-  unfolding unsigned
-  unsigned-long e = rw (le-leb 1 (length w) (omega arith), lt-leb (length w) 5 e)
+    pub zero-end : length line ≤ at + 1 → N.Value (pos 0) (at + 1 + 1) ≡ numberAt line at
+    zero-end l = zero-alone (until-end 32 line (at + 1) l)
 
-  pub unsigned-one : length w ≡ 1 → unsigned w ≡ decimal 0 w
-  unfolding unsigned
-  unsigned-one e = rw e
+  -- above zero
+  module _ (p : 48 < getD line at 0) where
+    number-above : numberAt line at ≡ numberAs (plain (unsigned (word line at))) (at + length (word line at) + 1)
+    unfolding valueOf
+    number-above = number-here ∙ rw (word-more line at h (λ e. omega arith), ne-eqb (getD line at 0) 45 (λ e. omega arith))
 
-  module _ (a : 1 < length w) (b : length w ≤ 5) where
-    pub unsigned-zero : getD w 0 0 ≡ 48 → unsigned w ≡ none
-    unfolding unsigned
-    unsigned-zero e = rw (le-leb 1 (length w) (omega arith), le-leb (length w) 5 b, ne-eqb (length w) 1 (omega arith), eq-eqb (getD w 0 0) 48 e)
+    above-digits : length (word line at) ≤ 5 → unsigned (word line at) ≡ decimal 0 (word line at)
+    above-digits l =
+        let w = word-more line at h (λ e. omega arith) in
+        rw w (unsigned-above _ _ p (rw w at l))
 
-    pub unsigned-more : (getD w 0 0 ≡ 48 → ⊥) → unsigned w ≡ decimal 0 w
-    unfolding unsigned
-    unsigned-more e = rw (le-leb 1 (length w) (omega arith), le-leb (length w) 5 b, ne-eqb (length w) 1 (omega arith), ne-eqb (getD w 0 0) 48 e)
+    module _ {v i : ℕ} (r : Passed line at v i) where
+      wrong : decimal v (word line i) ≡ none → N.Malformed ≡ numberAt line at
+      unfolding numberAs plain
+      wrong q = rw (number-above, unsigned-wrong (word line at) (r .digits ∙ q))
 
-pub malformed-digits : {o : Option ℕ} → o ≡ none → DigitsRead o D.Malformed
-unfolding digitsAs
-malformed-digits e = rw e (record { is = refl; small = tt })
+      pub above-low : i < length line → (getD line i 0 ≡ 32 → ⊥) → getD line i 0 < 48 → N.Malformed ≡ numberAt line at
+      above-low l n a = wrong (word-low line i l v n a)
 
-pub digits-value : {o : Option ℕ} {v : ℕ} → o ≡ some v → v < 100000 → DigitsRead o (D.Value v)
-unfolding digitsAs
-digits-value e h = rw e (record { is = refl; small = h })
+      pub above-high : i < length line → 57 < getD line i 0 → N.Malformed ≡ numberAt line at
+      above-high l a = wrong (word-high line i l v a)
 
--- the same digits by another account
-pub same-digits : {o p : Option ℕ} {r : Digits} → p ≡ o → DigitsRead o r → DigitsRead p r
-same-digits e d = rw e d
+      pub above-long : i < length line → (getD line i 0 ≡ 32 → ⊥) → at + 5 ≤ i → N.Malformed ≡ numberAt line at
+      unfolding numberAs plain
+      above-long l n a = rw (number-above, unsigned-long (word line at) (omega (arith, until-skip 32 line i l n)))
 
--- ---- a word by its first byte
+      above-ended : word line i ≡ [] → N.Value (pos v) (i + 1) ≡ numberAt line at
+      unfolding numberAs plain decimal
+      above-ended q =
+          let z : length (word line i) ≡ 0 = ap length q in
+          let n : at + length (word line at) + 1 ≡ i + 1 = omega arith in
+          let d : unsigned (word line at) ≡ some v = above-digits (omega arith) ∙ r .digits ∙ ap (decimal v) q in
+          rw (number-above, d, n)
 
-pub value-empty : (w : List ℕ) → length w ≡ 0 → W.Malformed ≡ wordAs (valueOf w)
-unfolding valueOf wordAs
-value-empty [] e = refl
-value-empty (b ∷ bs) e = absurd (omega arith)
+      -- at a space, and at the line's end
+      pub above-stop : i < length line → getD line i 0 ≡ 32 → N.Value (toZ w32 v) (i + 1) ≡ numberAt line at
+      above-stop l e = rw (signed r) (above-ended (until-stop 32 line i l e))
 
-value-minus : (w : List ℕ) → 0 < length w → getD w 0 0 ≡ 45 → valueOf w ≡ negated (unsigned (take (length w - 1) (drop 1 w)))
-unfolding valueOf
-value-minus [] h e = absurd (omega arith)
-value-minus (b ∷ bs) h e = rw (eq-eqb b 45 e, take-all (suc (length bs) - 1) bs (omega arith))
+      pub above-end : length line ≤ i → N.Value (toZ w32 v) (i + 1) ≡ numberAt line at
+      above-end l = rw (signed r) (above-ended (until-end 32 line i l))
 
-value-plain : (w : List ℕ) → 0 < length w → (getD w 0 0 ≡ 45 → ⊥) → valueOf w ≡ plain (unsigned w)
-unfolding valueOf
-value-plain [] h e = absurd (omega arith)
-value-plain (b ∷ bs) h e = rw (ne-eqb b 45 e)
+-- ---- below zero: with a minus and without
 
--- the enum's case says which digits there were
-digits-some : (o : Option ℕ) {r : Digits} (v : ℕ) → DigitsRead o r → r ≡ D.Value v → o ≡ some v
-unfolding digitsAs
-digits-some none v d p = cc
-digits-some (some m) v d p = cc
+sign-none : (o : Option ℕ) (k : ℕ) → numberAs (plain o) k ≡ N.Malformed → N.Malformed ≡ numberAs (negated o) k
+unfolding numberAs plain negated
+sign-none none k e = refl
+sign-none (some m) k e = cc
 
-digits-none : (o : Option ℕ) {r : Digits} → DigitsRead o r → r ≡ D.Malformed → o ≡ none
-unfolding digitsAs
-digits-none none d p = refl
-digits-none (some m) d p = cc
+module _ (k : ℕ) {n : ℕ} {v : ℤ} where
+  sign-some : (o : Option ℕ) → ((m : ℕ) → o ≡ some m → 0 < m) → numberAs (plain o) k ≡ N.Value v n → N.Value (negℤ v) n ≡ numberAs (negated o) k
+  unfolding numberAs plain negated
+  sign-some none f e = cc
+  sign-some (some m) f e = rw (ne-eqb m 0 (λ z. omega (arith, f m refl))) (cc)
 
-pub digits-small : {o : Option ℕ} {r : Digits} {v : ℕ} → DigitsRead o r → r ≡ D.Value v → v < 100000
-digits-small d p = rw p at (d .small)
+  -- an i32 that is not below zero has its negative
+  sign-fits : (o : Option ℕ) → numberAs (plain o) k ≡ N.Value v n → SFits w32 v → SFits w32 (negℤ v)
+  unfolding numberAs plain
+  sign-fits none e f = let z : _≡_ {A = ℕ} 0 1 = cc in absurd (omega arith)
+  sign-fits (some zero) e f = let q : v ≡ pos zero = cc in rw q (record { sfits = omega arith })
+  sign-fits (some (suc m)) e f = let q : v ≡ pos (suc m) = cc in rw q (record { sfits = omega (arith, rw q at (f .sfits)) })
 
--- what the word is on each way, from what was read of its digits
-module _ (w : List ℕ) {r : Digits} (h : 0 < length w) where
-  module _ (e : getD w 0 0 ≡ 45) (d : DigitsRead (unsigned (take (length w - 1) (drop 1 w))) r) where
-    pub minus-none : r ≡ D.Malformed → W.Malformed ≡ wordAs (valueOf w)
-    unfolding wordAs negated
-    minus-none p = rw (value-minus w h e, digits-none _ d p)
+module _ (line : List ℕ) (at : ℕ) (h : at < length line) (m : getD line at 0 ≡ 45) where
+  number-below : numberAt line at ≡ numberAs (negated (unsigned (word line (at + 1)))) (at + 1 + length (word line (at + 1)) + 1)
+  unfolding valueOf
+  number-below =
+      let n : at + suc (length (word line (at + 1))) + 1 ≡ at + 1 + length (word line (at + 1)) + 1 = omega arith in
+      number-here line at h ∙ rw (word-more line at h (λ e. omega arith), eq-eqb (getD line at 0) 45 m, n)
 
-    pub minus-zero : (v : ℕ) → r ≡ D.Value v → v ≡ 0 → W.Malformed ≡ wordAs (valueOf w)
-    unfolding wordAs negated
-    minus-zero v p z = rw (value-minus w h e, digits-some _ v d p, eq-eqb v 0 z)
+  pub below-end : length line ≤ at + 1 → N.Malformed ≡ numberAt line at
+  unfolding numberAs negated unsigned
+  below-end l = rw (number-below, until-end 32 line (at + 1) l)
 
-    pub minus-some : (v : ℕ) → r ≡ D.Value v → (v ≡ 0 → ⊥) → W.Value (negℤ (pos v)) ≡ wordAs (valueOf w)
-    unfolding wordAs negated
-    minus-some v p z = rw (value-minus w h e, digits-some _ v d p, ne-eqb v 0 z)
+  pub below-low : at + 1 < length line → getD line (at + 1) 0 ≤ 48 → N.Malformed ≡ numberAt line at
+  unfolding numberAs negated unsigned
+  below-low l a = go (eqb (getD line (at + 1) 0) 32) refl
+    where
+      go : (t : Bool) → eqb (getD line (at + 1) 0) 32 ≡ t → N.Malformed ≡ numberAt line at
+      go true e = rw (number-below, until-stop 32 line (at + 1) l (eqb-true (getD line (at + 1) 0) 32 e))
+      go false e = rw (number-below, word-more line (at + 1) l (eqb-false (getD line (at + 1) 0) 32 e), negated-low (getD line (at + 1) 0) _ a)
 
-  module _ (e : getD w 0 0 ≡ 45 → ⊥) (d : DigitsRead (unsigned w) r) where
-    pub plain-none : r ≡ D.Malformed → W.Malformed ≡ wordAs (valueOf w)
-    unfolding wordAs plain
-    plain-none p = rw (value-plain w h e, digits-none _ d p)
+  -- from what was read after the minus
+  module _ (l : at + 1 < length line) (p : 48 < getD line (at + 1) 0) {r : Number} (d : r ≡ numberAt line (at + 1)) where
+    rest : r ≡ numberAs (plain (unsigned (word line (at + 1)))) (at + 1 + length (word line (at + 1)) + 1)
+    rest = d ∙ number-above line (at + 1) l p
 
-    pub plain-some : (v : ℕ) → r ≡ D.Value v → W.Value (pos v) ≡ wordAs (valueOf w)
-    unfolding wordAs plain
-    plain-some v p = rw (value-plain w h e, digits-some _ v d p)
+    pub below-none : r ≡ N.Malformed → N.Malformed ≡ numberAt line at
+    below-none e = sign-none _ _ (sym rest ∙ e) ∙ sym number-below
 
--- ---- a five-digit value as an i32, and below zero
+    module _ {v : ℤ} {n : ℕ} (e : r ≡ N.Value v n) (f : SFits w32 v) where
+      fits : SFits w32 (negℤ v)
+      fits = sign-fits _ _ (sym rest ∙ e) f
 
-module _ {v : ℕ} (h : v < 100000) where
-  pub small-fits : SFits w32 (pos v)
-  small-fits = record { sfits = omega arith }
+      pub below-fits : SFits w32 (pos 0 -ℤ toZ w32 (ofZ w32 v))
+      below-fits = rw (toZ-ofZ f, +ℤ-idl) fits
 
-  pub small-signed : toZ w32 v ≡ pos v
-  small-signed = toZ-pos w32 (small-fits .sfits)
-
-neg-fits : (v : ℕ) → v < 100000 → SFits w32 (negℤ (pos v))
-neg-fits zero h = record { sfits = omega arith }
-neg-fits (suc v) h = record { sfits = omega arith }
-
-module _ {v : ℕ} (h : v < 100000) where
-  pub minus-fits : SFits w32 (pos 0 -ℤ toZ w32 v)
-  minus-fits = rw (small-signed h, +ℤ-idl) (neg-fits v h)
-
-  pub minus-is : toZ w32 (ofZ w32 (pos 0 -ℤ toZ w32 v)) ≡ negℤ (pos v)
-  minus-is = rw (small-signed h, +ℤ-idl) (toZ-ofZ (neg-fits v h))
+      pub below-some : N.Value (toZ w32 (ofZ w32 (pos 0 -ℤ toZ w32 (ofZ w32 v)))) n ≡ numberAt line at
+      below-some =
+          let w = word-more line (at + 1) l (λ q. omega arith) in
+          rw (toZ-ofZ f, +ℤ-idl, toZ-ofZ fits) (sign-some _ _ (λ k s. above-some _ _ p (rw w at s)) (sym rest ∙ e) ∙ sym number-below)

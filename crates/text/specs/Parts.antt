@@ -17,10 +17,6 @@ use Rattle.text.specs.Numbers.{numbersOf}
 use Rattle.text.specs.Contents.{Read, refused, counts, countsIn, inAll}
 use Rattle.text.specs.Lines.{segmentOf, trainOf}
 use Rattle.text.specs.Text.{Line, ended, torn, linesOf}
-use Rattle.text.specs.declared.numbers.Word.{Word}
-use Rattle.text.specs.declared.numbers.Word.the-variants as W
-use Rattle.text.specs.declared.numbers.Digits.{Digits}
-use Rattle.text.specs.declared.numbers.Digits.the-variants as D
 use Rattle.text.specs.declared.contents.Natural.{Natural}
 use Rattle.text.specs.declared.contents.Natural.the-variants as L
 use Rattle.text.specs.declared.contents.Count.{Count}
@@ -34,23 +30,6 @@ use Rattle.text.specs.declared.TrainStep.{TrainStep}
 use Rattle.text.specs.declared.TrainStep.the-variants as TS
 
 -- ---- numbers
-
-unfoldable pub digitsAs : Option ℕ → Digits
-digitsAs none = D.Malformed
-digitsAs (some n) = D.Value n
-
--- at most five digits
-abbrev pub Small : Digits → Type 0
-Small (D.Value n) = n < 100000
-Small D.Malformed = Unit {0}
-
-pub record DigitsRead (o : Option ℕ) (r : Digits) : Type 0 where
-  pub is : r ≡ digitsAs o
-  pub small : Small r
-
-unfoldable pub wordAs : Option ℤ → Word
-wordAs none = W.Malformed
-wordAs (some v) = W.Value v
 
 -- the numbers of a line from a position on; past its end there are none
 unfoldable pub numbersFrom : List ℕ → ℕ → Option (List ℤ)

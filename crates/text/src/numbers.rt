@@ -1,10 +1,8 @@
 // A number of a study text: one to five digits, a minus if below zero, no spare leading zero, no minus zero.
 ghost use mathlib.Core.Path.{_≡_};
-ghost use Prim.Native.Nat.{_≤_};
-ghost use lib.ListN.{length};
-ghost use Rattle.text.specs.Numbers.{decimal, unsigned, valueOf, numberAt};
-ghost use Rattle.text.specs.Parts.{DigitsRead, wordAs};
-use crate::find;
+ghost use Prim.Native.Nat.{_<_};
+ghost use lib.ListN.{length, getD};
+ghost use Rattle.text.specs.Numbers.{numberAt};
 
 // The number at a position of a line with the position after the space that ends it, or none of the right form.
 pub enum Number {
@@ -12,89 +10,81 @@ pub enum Number {
     Malformed,
 }
 
-enum Word {
-    Value(i32),
-    Malformed,
-}
-
-enum Digits {
-    Value(u32),
-    Malformed,
-}
-
-// The value of at most five digits.
-fn decimal_of(w: &[u8]) -> Digits
-    requires { ⌜ length (now w) ≤ 5 ⌝ }
-    ensures { λ r. ⌜ DigitsRead (decimal 0 (now (w .entry))) r ⌝ }
+// A number above zero, by its digits.
+fn positive_at(line: &[u8], at: usize) -> Number
+    requires { ⌜ (at < length (now line)) × (48 < getD (now line) at 0) ⌝ }
+    ensures { λ r. ⌜ r ≡ numberAt (now (line .entry)) at ⌝ }
 {
     let mut v: u32 = 0;
-    let mut i = 0;
-    while i < w.len() {
-        let b = w[i];
+    let mut i = at;
+    while i < line.len() {
+        let b = line[i];
+        if b == b' ' {
+            return Number::Value(v as i32, i + 1);
+        }
         if b < b'0' {
-            return Digits::Malformed;
+            return Number::Malformed;
         }
         if b'9' < b {
-            return Digits::Malformed;
+            return Number::Malformed;
+        }
+        if at + 5 <= i {
+            return Number::Malformed;
         }
         v = v * 10 + (b - b'0') as u32;
         i += 1;
     }
-    Digits::Value(v)
+    Number::Value(v as i32, i + 1)
 }
 
-// One to five digits with no spare leading zero.
-fn unsigned_of(w: &[u8]) -> Digits
-    ensures { λ r. ⌜ DigitsRead (unsigned (now (w .entry))) r ⌝ }
+// The number zero: nothing follows its digit.
+fn zero_at(line: &[u8], at: usize) -> Number
+    requires { ⌜ (at < length (now line)) × (getD (now line) at 0 ≡ 48) ⌝ }
+    ensures { λ r. ⌜ r ≡ numberAt (now (line .entry)) at ⌝ }
 {
-    let n = w.len();
-    if n == 0 {
-        return Digits::Malformed;
-    }
-    if 5 < n {
-        return Digits::Malformed;
-    }
-    if n == 1 {
-        return decimal_of(w);
-    }
-    if w[0] == b'0' {
-        return Digits::Malformed;
-    }
-    decimal_of(w)
-}
-
-// The number that a word is.
-fn number_of(w: &[u8]) -> Word
-    ensures { λ r. ⌜ r ≡ wordAs (valueOf (now (w .entry))) ⌝ }
-{
-    if w.len() == 0 {
-        return Word::Malformed;
-    }
-    if w[0] == b'-' {
-        let Digits::Value(v) = unsigned_of(&w[1..]) else {
-            return Word::Malformed;
-        };
-        if v == 0 {
-            return Word::Malformed;
+    let end = at + 1;
+    if end < line.len() {
+        if line[end] != b' ' {
+            return Number::Malformed;
         }
-        return Word::Value(0 - v as i32);
     }
-    let Digits::Value(v) = unsigned_of(w) else {
-        return Word::Malformed;
+    Number::Value(0, end + 1)
+}
+
+// A number below zero: a minus before a number above zero.
+fn negative_at(line: &[u8], at: usize) -> Number
+    requires { ⌜ (at < length (now line)) × (getD (now line) at 0 ≡ 45) ⌝ }
+    ensures { λ r. ⌜ r ≡ numberAt (now (line .entry)) at ⌝ }
+{
+    let start = at + 1;
+    if line.len() <= start {
+        return Number::Malformed;
+    }
+    if line[start] <= b'0' {
+        return Number::Malformed;
+    }
+    let Number::Value(v, next) = positive_at(line, start) else {
+        return Number::Malformed;
     };
-    Word::Value(v as i32)
+    Number::Value(0 - v, next)
 }
 
 // The number that starts at a position of a line, and the position after the space that ends it.
 pub fn number_at(line: &[u8], at: usize) -> Number
     ensures { λ r. ⌜ r ≡ numberAt (now (line .entry)) at ⌝ }
 {
-    if line.len() < at {
+    if line.len() <= at {
         return Number::Malformed;
     }
-    let end = find(line, at, b' ');
-    let Word::Value(v) = number_of(&line[at..end]) else {
-        return Number::Malformed;
-    };
-    Number::Value(v, end + 1)
+    let first = line[at];
+    if b'0' < first {
+        return positive_at(line, at);
+    }
+    if first == b'0' {
+        return zero_at(line, at);
+    }
+    if first == b'-' {
+        return negative_at(line, at);
+    }
+    Number::Malformed
 }
