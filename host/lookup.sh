@@ -5,8 +5,8 @@ set -eu
 here=$(cd "$(dirname "$0")" && pwd)
 build=$here/build
 mkdir -p "$build"
-(cd "$here/.." && rt staticlib lookup_c >/dev/null)
-gcc -std=c11 -O2 -Wall -Wextra -Werror "$here/c/lookup.c" "$here/../target/staticlib/liblookup_c.a" -lm -Wl,-z,now -o "$build/lookup"
+(cd "$here/.." && rt staticlib lookup_benchmark >/dev/null)
+gcc -std=c11 -O2 -Wall -Wextra -Werror "$here/c/lookup.c" "$here/../target/staticlib/liblookup_benchmark.a" -lm -Wl,-z,now -o "$build/lookup"
 
 # instructions WHO COUNT: what callgrind collects over the whole program
 instructions() {

@@ -1,4 +1,4 @@
--- `lookup_c::railnoise_ten_logs_to` meets its contract. The loop's invariant: `last` is what the numbers so far give.
+-- `lookup_benchmark::benchmark_ten_logs_to` meets its contract. The loop's invariant: `last` is what the numbers so far give.
 -- Assumes nothing.
 use mathlib.Core.Path.{_≡_, refl, sym, _∙_, ap}
 use Prim.Native.Nat.{ℕ, _+_, _-_, _≤_}
@@ -12,9 +12,9 @@ use Rattle.decibel.specs.Lookup.{tenLog, tenthsAt}
 use Rattle.decibel.specs.Tables.{Tables}
 use Rattle.decibel.proofs.Table.{parts}
 use Rattle.decibel.proofs.Words.{back}
-use Rattle.lookup_c.specs.Last.{lastOf}
-use Rattle.lookup_c.proofs.railnoise_ten_logs_to.Statement.{statement}
-use Rattle.lookup_c.proofs.railnoise_ten_logs_to.Tie as tie
+use Rattle.lookup_benchmark.specs.Last.{lastOf}
+use Rattle.lookup_benchmark.proofs.benchmark_ten_logs_to.Statement.{statement}
+use Rattle.lookup_benchmark.proofs.benchmark_ten_logs_to.Tie as tie
 
 abbrev Inv-loop : tie.InvT-loop
 Inv-loop count tables last₀ n₀ last n = (n ≤ count) × (toZ w32 last ≡ lastOf n) × Tables tables
@@ -42,6 +42,6 @@ loop-again c =
 returns : tie.Need-returns Inv-loop μ-loop
 returns c = let e : c .before .loop .n ≡ c .before .before .before .args .count = omega arith in c .before .loop .inv .1 ∙ ap lastOf e
 
-pub railnoise-ten-logs-to-spec : {M : Type 1} → statement M
-railnoise-ten-logs-to-spec =
+pub benchmark-ten-logs-to-spec : {M : Type 1} → statement M
+benchmark-ten-logs-to-spec =
     tie.close (tie.spec Inv-loop μ-loop (λ c κs. search needs) loop-holds (λ c. omega arith) slice-aggregate-ten-log (λ c κs. search needs) (λ c. omega arith) loop-again returns)

@@ -1,10 +1,10 @@
 // For the benchmark of the lookups alone: the tables built once and lent to many of them.
 ghost use mathlib.Core.Path.{_≡_};
-ghost use Rattle.lookup_c.specs.Last.{lastOf};
+ghost use Rattle.lookup_benchmark.specs.Last.{lastOf};
 
 // Looks up 10 · log of every number from 1 to `count`, and answers the last, in tenths.
 #[no_mangle]
-pub extern "C" fn railnoise_ten_logs_to(count: u64) -> i32
+pub extern "C" fn benchmark_ten_logs_to(count: u64) -> i32
     ensures { λ r. ⌜ r ≡ lastOf count ⌝ }
 {
     let tables = decibel::tables();
