@@ -6,6 +6,7 @@
  */
 #define _GNU_SOURCE
 #include "plain.h"
+#include "texts.h"
 
 #include <pthread.h>
 #include <stdio.h>
@@ -21,22 +22,10 @@ static const char *const study_names[STUDIES] = { "full", "small", "refused" };
 static char texts[STUDIES][RAILNOISE_TEXT_LIMIT];
 static size_t lengths[STUDIES];
 
-static const char sample[] =
-    "3 1 1 1\n"
-    "10000 330 235 10 29 29 0 0 0 0 0 0 1 0\n"
-    "1 150 10 179 13\n"
-    "10000 330 235 0 115 173 2 500 130 38 0 0 1 0\n"
-    "1 150 10 179 13\n"
-    "10000 330 235 10 36 36 0 0 0 0 0 0 1 0\n"
-    "1 150 10 179 13\n";
-
 /* 24 segments, every second one screened, and 96 trains; the last train's speed as given. */
 static size_t write_full(char *text, int last_speed)
 {
-    char *at = text + sprintf(text, "24");
-    for (int i = 0; i < 24; i++)
-        at += sprintf(at, " 4");
-    *at++ = '\n';
+    char *at = put_full_contents(text);
     for (int i = 0; i < 24; i++) {
         int d = 4000 + 1013 * i, view = 20 + 6 * i;
         if (i % 2 == 0)

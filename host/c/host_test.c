@@ -4,6 +4,7 @@
 #include "check.h"
 #include "guarded.h"
 #include "railnoise.h"
+#include "texts.h"
 
 #include <pthread.h>
 #include <string.h>
@@ -159,15 +160,6 @@ static const char *one_with(const int32_t base[14], const int32_t (*changes)[2])
         segment[changes[i][0]] = changes[i][1];
     return one(segment, plain_train);
 }
-
-static const char sample[] =
-    "3 1 1 1\n"
-    "10000 330 235 10 29 29 0 0 0 0 0 0 1 0\n"
-    "1 150 10 179 13\n"
-    "10000 330 235 0 115 173 2 500 130 38 0 0 1 0\n"
-    "1 150 10 179 13\n"
-    "10000 330 235 10 36 36 0 0 0 0 0 0 1 0\n"
-    "1 150 10 179 13\n";
 
 /* The memorandum's Example 8: its printed levels by segment, and its totals. */
 static void test_sample(void)
@@ -507,10 +499,7 @@ static void test_no_state_refusals(void)
 /* 24 segments and 96 trains; each figure as wide as it can be. */
 static size_t full_study(char *text)
 {
-    char *at = text + sprintf(text, "24");
-    for (int i = 0; i < 24; i++)
-        at += sprintf(at, " 4");
-    *at++ = '\n';
+    char *at = put_full_contents(text);
     for (int i = 0; i < 24; i++) {
         at += sprintf(at, "30000 5000 5000 10 180 180 2 29900 -2000 100 150 0 1 180\n");
         for (int k = 0; k < 4; k++)
@@ -609,10 +598,11 @@ static void test_threads(void)
     CHECK(failures[0] == 0 && failures[1] == 0, "two threads at once");
 }
 
+/* Every refusal of document 01 has words of its own, those that no text leads to as well. */
 static void test_words(void)
 {
-    for (uint32_t i = 0; i <= 24; i++) {
-        bool known = i <= 13 || i == 24;
+    for (uint32_t i = 0; i <= 26; i++) {
+        bool known = i <= 13 || (20 <= i && i <= 24);
         CHECK((strcmp(railnoise_refusal_words(i), "unknown refusal") != 0) == known, "words of a refusal");
         for (uint32_t k = 0; k < i && known; k++)
             CHECK(strcmp(railnoise_refusal_words(i), railnoise_refusal_words(k)) != 0, "words of two refusals");
