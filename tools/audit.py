@@ -1,23 +1,109 @@
 #!/usr/bin/env python3
-"""Rules of the repository that no proof states: exits 1 and names each place that breaks one.
+"""Rules of the repository that no proof states: prints each place that breaks one, and then exits with 1.
 
-- no public function has a `requires`: every promise holds for every input
-- no antt file is longer than 300 lines
+- a library's public function has an `ensures` and no `requires`, and docs/TRACE.md names it in backticks
+- a function of the product has fewer than 40 lines, its contract not counted
+- an antt file has at most 300 lines
+- no six lines stand twice; blank lines, comments and imports are not counted
+
+Run it at the root: python3 tools/audit.py
 """
 import pathlib
 import re
 import sys
 
-faults = []
-for path in sorted(pathlib.Path("crates").glob("*/src/**/*.rt")):
+# Functions that may be longer, with the reason.
+LONG = {
+    "text segment_of": "document 01 asks for a `let .. else` for each of the 14 fields",
+}
+# Written by tools/tables.py: many entries of a table are the same number.
+TABLES = {"crates/decibel/src/thresholds.rt", "crates/energy/src/weights.rt"}
+
+FUNCTION = re.compile(
+    r"""^(?P<indent>[ \t]*)(?P<public>pub[ ])?(?:pub\(crate\)[ ])?(?:extern[ ]"C"[ ])?fn[ ](?P<name>\w+)
+        (?P<head>.*?)\{\n(?P<body>.*?)^(?P=indent)\}$""",
+    re.M | re.S | re.X,
+)
+CONTRACT = re.compile(r"^[ \t]+(?:requires|ensures)\b.*", re.M | re.S)
+# Lines that do not count as repeated, by the file's suffix.
+UNCOUNTED = {
+    ".antt": r"--|(pub )?(use|mod)\b",
+    ".rt": r"//|(pub )?(ghost )?(use|mod)\b",
+    ".rs": r"//|(pub )?(use|mod)\b",
+    ".c": r"//|/\*|\*( |/|$)|#include\b",
+    ".h": r"//|/\*|\*( |/|$)|#include\b",
+    ".py": r"#|import\b|from\b",
+    ".sh": r"#",
+}
+SOURCES = ["crates/**/*.rt", "crates/**/*.antt", "include/*.h", "host/**/*.[ch]", "host/**/*.rs", "host/**/*.sh", "*.sh",
+           "host/**/*.py", "tools/*.py"]
+RUN = 6
+
+
+def files(patterns):
+    """The files of some patterns; what builds have left below host/ is no source."""
+    found = {path for pattern in patterns for path in pathlib.Path(".").glob(pattern)}
+    return sorted(path for path in found if not {"target", "build"} & set(path.parts) and path.as_posix() not in TABLES)
+
+
+def function_faults(path, trace):
+    """What is wrong with a .rt file's functions."""
+    crate = path.parts[1]
+    library = not pathlib.Path("crates", crate, "src", "main.rt").exists()
     text = path.read_text()
-    for match in re.finditer(r"^[ \t]*pub (?:extern \"C\" )?fn (\w+)[^{;]*?\n((?:[ \t]+(?:requires|ensures|ghost)\b[^\n]*\n)*)", text, re.M):
-        if re.search(r"^[ \t]+requires\b", match.group(2), re.M):
-            faults.append(f"{path}: public function {match.group(1)} has a requires")
-for path in sorted(pathlib.Path("crates").glob("**/*.antt")):
-    lines = path.read_text().count("\n")
-    if lines > 300:
-        faults.append(f"{path}: {lines} lines")
-for fault in faults:
-    print(fault, file=sys.stderr)
-sys.exit(1 if faults else 0)
+    names = re.findall(r"^[^/\n]*\bfn (\w+)", text, re.M)
+    if names != [match["name"] for match in FUNCTION.finditer(text)]:
+        yield f"{path}: a function stands in a form that this script does not read"
+    for match in FUNCTION.finditer(text):
+        name = match["name"]
+        contract = CONTRACT.search(match["head"])
+        stated = contract[0] if contract else ""
+        if match["public"] and library:
+            if re.search(r"^\s+requires\b", stated, re.M):
+                yield f"{path}: public function {name} has a requires"
+            if not re.search(r"^\s+ensures\b", stated, re.M):
+                yield f"{path}: public function {name} has no ensures"
+            if f"`{name}`" not in trace:
+                yield f"{path}: public function {name} is not in docs/TRACE.md"
+        length = match[0].count("\n") + 1 - stated.count("\n")
+        if length >= 40 and f"{crate} {name}" not in LONG:
+            yield f"{path}: function {name} has {length} lines"
+
+
+def counted_lines(path):
+    """The lines of a file that count, with their numbers."""
+    uncounted = re.compile(UNCOUNTED[path.suffix])
+    lines = ((number, line.strip()) for number, line in enumerate(path.read_text().splitlines(), 1))
+    return [(number, line) for number, line in lines if line and not uncounted.match(line)]
+
+
+def repeated_runs(paths):
+    """The places of each run of equal lines that stands more than once; of a longer run only its beginning."""
+    kept = {path: counted_lines(path) for path in paths}
+    windows = {}
+    for path, lines in kept.items():
+        for start in range(len(lines) - RUN + 1):
+            window = tuple(line for _, line in lines[start : start + RUN])
+            windows.setdefault(window, []).append((path, start))
+    repeated = {tuple(places) for places in windows.values() if len(places) > 1}
+    for places in sorted(repeated):
+        if tuple((path, start - 1) for path, start in places) not in repeated:
+            yield [f"{path}:{kept[path][start][0]}" for path, start in places]
+
+
+def main():
+    trace = pathlib.Path("docs/TRACE.md").read_text()
+    faults = [fault for path in files(["crates/*/src/**/*.rt"]) for fault in function_faults(path, trace)]
+    for path in files(["crates/**/*.antt"]):
+        length = len(path.read_text().splitlines())
+        if length > 300:
+            faults.append(f"{path}: {length} lines")
+    for places in repeated_runs(files(SOURCES)):
+        faults.append(f"six equal lines: {', '.join(places[:4])}{' and more' if len(places) > 4 else ''}")
+    for fault in faults:
+        print(fault, file=sys.stderr)
+    print(f"audit: {len(faults)} faults")
+    sys.exit(1 if faults else 0)
+
+
+main()
