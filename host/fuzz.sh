@@ -1,20 +1,43 @@
 #!/bin/sh
 # Coverage-guided fuzzing of railnoise_levels under AddressSanitizer, with libFuzzer.
-#   host/fuzz.sh SECONDS [ARCHIVE]
-# ARCHIVE: the static library to test, by default the product's as rt staticlib writes it. Coverage comes from the plain program
-# and from the second implementation, both instrumented here, and from the archive if it was built
-# with -fsanitize-coverage itself. Each answer is held against the second implementation.
+#   host/fuzz.sh [--install] SECONDS [ARCHIVE]
+# ARCHIVE: the static library to test, by default the product's as rt staticlib writes it.
+# --install: where clang or its fuzzer library is missing, install Debian's packages of them with apt-get. Without it the script
+# says what is missing and exits with 2.
+# Coverage comes from the plain program and from the second implementation, both instrumented here, and from the archive if it was
+# built with -fsanitize-coverage itself. Each answer is held against the second implementation.
 # New texts are kept in host/build/corpus; a failing one is written to host/build/fuzz-*.
 set -eu
 here=$(cd "$(dirname "$0")" && pwd)
+install=no
+if [ "${1:-}" = --install ]; then
+    install=yes
+    shift
+fi
+[ $# -ge 1 ] || { echo "usage: host/fuzz.sh [--install] SECONDS [ARCHIVE]" >&2; exit 2; }
 seconds=$1
 archive=${2:-$here/../target/staticlib/librailnoise_c.a}
 [ -r "$archive" ] || { echo "$archive is missing: run rt staticlib railnoise_c" >&2; exit 2; }
 build=$here/build
 mkdir -p "$build/corpus"
 
-if ! command -v clang >/dev/null; then
-    apt-get install -y --no-install-recommends clang libclang-rt-14-dev || apt-get install -y clang
+# missing: names what this machine lacks for fuzzing; nothing where it lacks nothing
+missing() {
+    if ! command -v clang >/dev/null; then
+        echo clang
+    elif ! echo 'int LLVMFuzzerTestOneInput(void) { return 0; }' |
+        clang -fsanitize=fuzzer,address -x c - -o "$build/fuzz_library" 2>/dev/null; then
+        echo "clang's fuzzer library"
+    fi
+}
+
+if [ -n "$(missing)" ] && [ "$install" = yes ]; then
+    apt-get install -y --no-install-recommends clang libclang-rt-dev
+fi
+lacking=$(missing)
+if [ -n "$lacking" ]; then
+    echo "host/fuzz.sh: $lacking is missing (with --install it installs Debian's packages clang and libclang-rt-dev)" >&2
+    exit 2
 fi
 
 # The second implementation, with counters that libFuzzer reads. In a directory of its own, so that

@@ -152,7 +152,7 @@ pub fn level_of(sum: Energy) -> i64 {
 
 #[cfg(test)]
 mod tests {
-    use super::*;
+    use super::{energy, level_of, Energy};
     use crate::big::Big;
 
     fn big(e: Energy) -> Big {

@@ -209,21 +209,32 @@ fn aim_distance(random: &mut Random, segment: &mut SegmentNumbers, wanted: f64) 
     (1000..=30000).contains(&distance)
 }
 
-/// The best of many windows for a wanted d² + h².
-fn near_square(random: &mut Random, segment: &mut SegmentNumbers, wanted: f64) {
+/// Tries many changes of a segment and keeps the one that comes nearest to what is wanted. `change` makes one
+/// and gives how far away it is, or nothing where it is of no use.
+fn keep_nearest(
+    random: &mut Random,
+    segment: &mut SegmentNumbers,
+    times: usize,
+    change: impl Fn(&mut Random, &mut SegmentNumbers) -> Option<f64>,
+) {
     let good = *segment;
     let mut best = f64::INFINITY;
-    for _ in 0..40 {
+    for _ in 0..times {
         let mut trial = good;
-        trial[WINDOW] = random.between(-5000, 5000);
-        if aim_distance(random, &mut trial, wanted) {
-            let away = (steps::slant_square(&Segment::from_numbers(&trial)) as f64 - wanted).abs();
-            if away < best {
-                best = away;
-                *segment = trial;
-            }
+        if let Some(away) = change(random, &mut trial).filter(|&away| away < best) {
+            best = away;
+            *segment = trial;
         }
     }
+}
+
+/// The best of many windows for a wanted d² + h².
+fn near_square(random: &mut Random, segment: &mut SegmentNumbers, wanted: f64) {
+    keep_nearest(random, segment, 40, |random, trial| {
+        trial[WINDOW] = random.between(-5000, 5000);
+        let reached = aim_distance(random, trial, wanted);
+        reached.then(|| (steps::slant_square(&Segment::from_numbers(trial)) as f64 - wanted).abs())
+    });
 }
 
 fn near_distance_tie(random: &mut Random, segment: &mut SegmentNumbers) {
@@ -292,31 +303,23 @@ fn difference_at(segment: &SegmentNumbers, top: i32) -> i64 {
 /// A path difference on either side of a limit: 2.5 m in shadow, 0.4 m in the light.
 fn near_path_limit(random: &mut Random, segment: &mut SegmentNumbers, shadow: bool) {
     let limit = if shadow { steps::SHADOW_LIMIT } else { steps::ILLUMINATED_LIMIT };
-    let mut best = i64::MAX;
-    let good = *segment;
-    for _ in 0..12 {
-        let mut trial = good;
+    keep_nearest(random, segment, 12, |random, trial| {
         let place = random.between(100, trial[DISTANCE] - 100);
-        put_screen(&mut trial, place, 0, random);
+        put_screen(trial, place, 0, random);
         let sight = (trial[WINDOW] as i64 * place as i64).div_euclid(trial[DISTANCE] as i64) as i32;
         // Away from the line of sight the difference only grows; halve towards the limit.
         let (mut near, mut far) = if shadow { (sight, 5000) } else { (sight, -2000) };
         while (far - near).abs() > 1 {
             let middle = (near + far) / 2;
-            if difference_at(&trial, middle) > limit {
+            if difference_at(trial, middle) > limit {
                 far = middle
             } else {
                 near = middle
             }
         }
-        let top = (if random.chance(50) { near } else { far }).clamp(-2000, 5000);
-        trial[SCREEN_TOP] = top;
-        let away = (difference_at(&trial, top) - limit).abs();
-        if away < best {
-            best = away;
-            *segment = trial;
-        }
-    }
+        trial[SCREEN_TOP] = (if random.chance(50) { near } else { far }).clamp(-2000, 5000);
+        Some((difference_at(trial, trial[SCREEN_TOP]) - limit).abs() as f64)
+    });
 }
 
 /// Path differences that are exactly 2.5 m or 0.4 m, and their neighbours.
@@ -329,19 +332,11 @@ fn at_path_limit(random: &mut Random, segment: &mut SegmentNumbers) {
 
 /// The screen nearest a tie of its step, among many.
 fn near_screen_tie(random: &mut Random, segment: &mut SegmentNumbers) {
-    let good = *segment;
-    let mut best = -1;
-    for _ in 0..40 {
-        let mut trial = good;
-        any_screen(random, &mut trial);
-        if is_good(&trial) {
-            let near = added(steps::screen(&Segment::from_numbers(&trial))).abs();
-            if near > best {
-                best = near;
-                *segment = trial;
-            }
-        }
-    }
+    keep_nearest(random, segment, 40, |random, trial| {
+        any_screen(random, trial);
+        let from_tie = |trial| TENTH / 2 - added(steps::screen(&Segment::from_numbers(trial))).abs();
+        is_good(trial).then(|| from_tie(trial) as f64)
+    });
 }
 
 fn near_angle_tie(random: &mut Random, segment: &mut SegmentNumbers) {
