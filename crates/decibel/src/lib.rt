@@ -223,8 +223,8 @@ pub fn cosine(t: &[u64], deg: u64) -> i64
         return 0;
     }
     let v = clamp(deg, 0, 180) as usize;
-    if v <= 90 {
-        return quarter(t, 90 - v);
+    if 90 < v {
+        return 0 - quarter(t, v - 90);
     }
-    0 - quarter(t, v - 90)
+    quarter(t, 90 - v)
 }

@@ -168,13 +168,20 @@ fn less(a: i32, b: i32) -> i32
 }
 
 // The number, 0 where it is below zero.
-fn natural(a: i32) -> u64
+fn wide_natural(a: i64) -> u64
     ensures { λ r. ⌜ r ≡ up a ⌝ }
 {
     if a < 0 {
         return 0;
     }
     a as u64
+}
+
+// The same of a figure.
+fn natural(a: i32) -> u64
+    ensures { λ r. ⌜ r ≡ up a ⌝ }
+{
+    wide_natural(a as i64)
 }
 
 fn square(a: i32) -> u64

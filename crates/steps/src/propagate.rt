@@ -56,23 +56,13 @@ fn y_of(t: &[u64], view: u64, doubled: u64) -> i64
     turn - decibel::sine(t, view) * decibel::cosine(t, doubled) / 1000000000
 }
 
-// The number, 0 where it is below zero.
-fn wide_natural(a: i64) -> u64
-    ensures { λ r. ⌜ r ≡ up a ⌝ }
-{
-    if a < 0 {
-        return 0;
-    }
-    a as u64
-}
-
 // Angle of view: 5 decibels less, and 90 because y is in billionths.
 pub(crate) fn angle_step(t: &[u64], s: Segment) -> i32
     requires { ⌜ Ranges s ⌝ }
     ensures { λ r. ⌜ Tenths (now (t .entry)) (nearest (angleFence s)) r ⌝ }
 {
     let y = y_of(t, crate::natural(s.view), crate::natural(s.doubled));
-    crate::less(decibel::ten_log(t, wide_natural(y)), 950)
+    crate::less(decibel::ten_log(t, crate::wide_natural(y)), 950)
 }
 
 // Opposite facades.

@@ -10,17 +10,22 @@ use steps::Refusal;
 use steps::Segment;
 use steps::Train;
 
+// How many segments, and how many train entries in all, a study may hold.
+pub const MOST_SEGMENTS: usize = 24;
+
+pub const MOST_ENTRIES: usize = 96;
+
 // A train entry with the place of its segment, from 0.
 pub struct Entry {
     pub segment: usize,
     pub train: Train,
 }
 
-// Up to 24 segments and 96 train entries. Nothing but this crate makes or changes one.
+// Segments and train entries, up to so many. Nothing but this crate makes or changes one.
 pub struct Study {
-    segments: [Segment; 24],
+    segments: [Segment; MOST_SEGMENTS],
     count: usize,
-    entries: [Entry; 96],
+    entries: [Entry; MOST_ENTRIES],
     total: usize,
 }
 
@@ -62,9 +67,9 @@ pub fn empty() -> Study
         train: train,
     };
     Study {
-        segments: [segment; 24],
+        segments: [segment; MOST_SEGMENTS],
         count: 0,
-        entries: [entry; 96],
+        entries: [entry; MOST_ENTRIES],
         total: 0,
     }
 }
@@ -73,7 +78,7 @@ pub fn empty() -> Study
 fn segment_limit(count: usize) -> Check
     ensures { λ r. ⌜ r ≡ segmentLimit ours count ⌝ }
 {
-    if 24 <= count {
+    if MOST_SEGMENTS <= count {
         return Check::Refused(Refusal::SegmentLimit);
     }
     Check::Accepted
@@ -107,7 +112,7 @@ fn train_limit(count: usize, total: usize) -> Check
     if count == 0 {
         return Check::Refused(Refusal::NoSegment);
     }
-    if 96 <= total {
+    if MOST_ENTRIES <= total {
         return Check::Refused(Refusal::EntryLimit);
     }
     Check::Accepted
@@ -139,12 +144,25 @@ pub fn add_train(mut study: Study, train: Train) -> Added
 }
 
 // The study of these segments and entries, added one after another: each segment, then the trains of its entries.
-pub fn study_of(segments: [Segment; 24], count: usize, entries: [Entry; 96], total: usize) -> Study
+pub fn study_of(
+    segments: [Segment; MOST_SEGMENTS],
+    count: usize,
+    entries: [Entry; MOST_ENTRIES],
+    total: usize,
+) -> Study
     ensures { λ r. ⌜ r ≡ run ours (listed (planOf (record { segments = segments; count = count; entries = entries; total = total }))) ⌝ }
 {
     // No more than the arrays hold, whatever the counts say.
-    let places = if count < 24 { count } else { 24 };
-    let rows = if total < 96 { total } else { 96 };
+    let places = if count < MOST_SEGMENTS {
+        count
+    } else {
+        MOST_SEGMENTS
+    };
+    let rows = if total < MOST_ENTRIES {
+        total
+    } else {
+        MOST_ENTRIES
+    };
     let mut study = empty();
     let mut k: usize = 0;
     while k < places {

@@ -20,13 +20,5 @@ pub put-study-spec : {M : Type 1} → statement M
 put-study-spec =
     tie.close
     (tie.spec
-    (λ c. search needs)
-    (λ c κs. search needs)
-    (λ c. search needs)
-    (λ c κs. search needs)
-    (λ c. search needs)
-    (λ c κs. search needs)
-    (λ c. search needs)
-    returns
-    (λ c. search needs)
-    returns-2)
+    (λ c. search needs) (λ c κs. search needs) (λ c. search needs) (λ c κs. search needs) (λ c. search needs) (λ c κs. search needs)
+    (λ c. search needs) returns (λ c. search needs) returns-2)

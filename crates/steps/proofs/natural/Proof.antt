@@ -1,26 +1,17 @@
 -- `steps::natural` meets its contract.
 -- Assumes nothing.
-use mathlib.Core.Path.{_≡_, _∙_, ap, subst}
-use mathlib.Core.Bool.{true}
-use lib.IntN.{ℤ, pos, natAbs}
-use lib.Signed.{ltZ}
-use mir.Facts.{toZ-ofZ}
-use Rattle.steps.proofs.Lengths.{below-zero, not-below, abs-up, abs-fits}
+use mathlib.Core.Path.{_∙_, ap}
+use mir.Facts.{toZ-ofZ, sfits-widen}
+use mir.Syntax.{w32, w64}
+use Rattle.decibel.specs.Ints.{up}
 use Rattle.steps.proofs.natural.Statement.{statement}
 use Rattle.steps.proofs.natural.Tie as tie
 
+cast-wide-natural : tie.Need-cast-wide-natural
+cast-wide-natural c = rw (toZ-ofZ (c .fits .a)) (sfits-widen tt (c .fits .a))
+
 returns : tie.Need-returns
-returns c = below-zero (c .before .args .a) (subst (λ (z : ℤ). ltZ z (pos 0) ≡ true) (toZ-ofZ (c .before .fits .a)) (c .if1 .taken))
-
-cast-result : tie.Need-cast-result
-cast-result c =
-    let e = toZ-ofZ (c .before .fits .a) in
-    rw e (not-below (c .before .args .a) (rw e at (c .if1 .left)), abs-fits (c .before .args .a) (c .before .fits .a .sfits))
-
-returns-2 : tie.Need-returns-2
-returns-2 c =
-    let e = toZ-ofZ (c .before .fits .a) in
-    ap natAbs e ∙ abs-up (c .before .args .a) (not-below (c .before .args .a) (rw e at (c .if1 .left)))
+returns c = simp (c .wide-natural .ensures, toZ-ofZ (c .before .fits .a), toZ-ofZ (sfits-widen {w = w32} {w′ = w64} tt (c .before .fits .a)))
 
 pub natural-spec : {M : Type 1} → statement M
-natural-spec = tie.close (tie.spec returns cast-result returns-2)
+natural-spec = tie.close (tie.spec cast-wide-natural (λ c κs. tt) returns)

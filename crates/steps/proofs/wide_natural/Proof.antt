@@ -1,12 +1,12 @@
--- `steps::propagate::wide_natural` meets its contract.
+-- `steps::wide_natural` meets its contract.
 -- Assumes nothing.
 use mathlib.Core.Path.{_∙_, ap}
 use lib.IntN.{natAbs}
 use mir.Facts.{toZ-ofZ}
 use Rattle.steps.proofs.Lengths.{below-zero, not-below, abs-up}
 use Rattle.steps.proofs.Steps.{wide-abs-fits}
-use Rattle.steps.proofs.propagate.wide_natural.Statement.{statement}
-use Rattle.steps.proofs.propagate.wide_natural.Tie as tie
+use Rattle.steps.proofs.wide_natural.Statement.{statement}
+use Rattle.steps.proofs.wide_natural.Tie as tie
 
 returns : tie.Need-returns
 returns c = below-zero (c .before .args .a) (rw (toZ-ofZ (c .before .fits .a)) at (c .if1 .taken))
