@@ -6,7 +6,7 @@ use Prim.Native.Nat.{ℕ, _-_, _*_, _≤_, _<_}
 use native.Mathlib.Nat.{le-trans, mul-le-mul}
 use native.Mathlib.Omega.{arith}
 use lib.Dec.{T, leb, leb→le, lit<, lit≤}
-use lib.IntN.{ℤ, pos, negℤ, _+ℤ_, _-ℤ_}
+use lib.IntN.{ℤ, pos, negℤ, _+ℤ_, _-ℤ_, +ℤ-assoc, +ℤ-comm}
 use lib.ListN.{length, getD}
 use mir.Syntax.{w32}
 use mir.Val.{SFits, toZ, ofZ}
@@ -31,7 +31,7 @@ use Rattle.steps.specs.Refusal.{isAccepted}
 use Rattle.steps.specs.Rules.{trainCheck}
 use Rattle.steps.specs.Step.{rollings, rollingTenths, countedSpeed, speedFence, vehiclesFence, trainsIn, hoursTenths, trainsFence}
 use Rattle.steps.specs.Entry.{trainTenths, sounds, emissionOf}
-use Rattle.steps.specs.Parts.{Below, TrainRanges, Tenths, SmallLevel, Emits}
+use Rattle.steps.specs.Parts.{Below, TrainRanges, Tenths, Base, SmallLevel, Emits}
 use Rattle.steps.proofs.Lengths.{below-back}
 use Rattle.steps.proofs.Figures.{below-more, below-answer, tenths-of, tenths-by, Sum, summands, summed}
 
@@ -116,30 +116,44 @@ trains-is p t {xs} {n} {x} {y} {r} g l e a k q =
 
 -- ---- the sum, and what each addition asks
 
-module _ (p : Period) (t : Train) {xs : List ℕ} {a b c d : ℤ} (ta : Tenths xs (nearest (speedFence t)) a) (tb : Tenths xs (nearest (vehiclesFence t)) b) (tc : Tenths xs (nearest (trainsFence p t)) c) (g : TrainRanges t) (ed : d ≡ rollingTenths t) where
-  first : {x : ℤ} → x ≡ toZ w32 (ofZ w32 c) +ℤ toZ w32 (ofZ w32 d) → Sum 2200 c d x
-  first e = summed (tc .small) (rolling-below t g ed) (lit≤ tt) e
+module _ (t : Train) {xs : List ℕ} {a b d : ℤ} (ta : Tenths xs (nearest (speedFence t)) a) (tb : Tenths xs (nearest (vehiclesFence t)) b) (g : TrainRanges t) (ed : d ≡ rollingTenths t) where
+  pub vehicles-asks : Below 1000000 (toZ w32 (ofZ w32 b)) × Below 1000000 (toZ w32 (ofZ w32 d))
+  vehicles-asks = summands (tb .small) (rolling-below t g ed) (lit≤ tt)
 
-  module _ {x : ℤ} (ex : x ≡ toZ w32 (ofZ w32 c) +ℤ toZ w32 (ofZ w32 d)) where
-    pub vehicles-asks : Below 1000000 (toZ w32 (ofZ w32 b)) × Below 1000000 (toZ w32 (ofZ w32 x))
-    vehicles-asks = summands (tb .small) (first ex .small) (lit≤ tt)
+  module _ {x : ℤ} (ex : x ≡ toZ w32 (ofZ w32 b) +ℤ toZ w32 (ofZ w32 d)) where
+    first : Sum 2200 b d x
+    first = summed (tb .small) (rolling-below t g ed) (lit≤ tt) ex
 
-    module _ {y : ℤ} (ey : y ≡ toZ w32 (ofZ w32 b) +ℤ toZ w32 (ofZ w32 x)) where
-      second : Sum 4200 b x y
-      second = summed (tb .small) (first ex .small) (lit≤ tt) ey
+    pub speed-asks : Below 1000000 (toZ w32 (ofZ w32 a)) × Below 1000000 (toZ w32 (ofZ w32 x))
+    speed-asks = summands (ta .small) (first .small) (lit≤ tt)
 
-      pub speed-asks : Below 1000000 (toZ w32 (ofZ w32 a)) × Below 1000000 (toZ w32 (ofZ w32 y))
-      speed-asks = summands (ta .small) (second .small) (lit≤ tt)
+    -- what does not depend on the period
+    pub base-is : {y : ℤ} → y ≡ toZ w32 (ofZ w32 a) +ℤ toZ w32 (ofZ w32 x) → Base xs t (toZ w32 (ofZ w32 y))
+    base-is e =
+        let s = summed (ta .small) (first .small) (lit≤ tt) e in
+        let back = below-back (below-more (lit≤ tt) (s .small)) in
+        record {
+          is = λ w. back ∙ s .is ∙ ap₂ _+ℤ_ (ta .is w) (first .is ∙ ap₂ _+ℤ_ (tb .is w) ed);
+          small = subst (Below 4200) (sym back) (s .small);
+        }
 
-      pub train-is : {z : ℤ} → z ≡ toZ w32 (ofZ w32 a) +ℤ toZ w32 (ofZ w32 y) → Emits xs (Figure (trainTenths p t)) (Figure (toZ w32 (ofZ w32 z)))
-      unfolding trainTenths SmallLevel
-      train-is e =
-          let s = summed (ta .small) (second .small) (lit≤ tt) e in
-          let back = below-back (below-more (lit≤ tt) (s .small)) in
-          record {
-            is = λ w. ap Figure (back ∙ s .is ∙ ap₂ _+ℤ_ (ta .is w) (second .is ∙ ap₂ _+ℤ_ (tb .is w) (first ex .is ∙ ap₂ _+ℤ_ (tc .is w) ed)));
-            small = subst (Below 20000) (sym back) (below-more (lit≤ tt) (s .small));
-          }
+-- the trains step last, as the code adds it
+trains-last : (a b c d : ℤ) → (a +ℤ (b +ℤ d)) +ℤ c ≡ a +ℤ (b +ℤ (c +ℤ d))
+trains-last a b c d = +ℤ-assoc a (b +ℤ d) c ∙ ap (λ (z : ℤ). a +ℤ z) (+ℤ-assoc b d c ∙ ap (λ (z : ℤ). b +ℤ z) (+ℤ-comm d c))
+
+module _ (p : Period) (t : Train) {xs : List ℕ} {b c : ℤ} (tb : Base xs t b) (tc : Tenths xs (nearest (trainsFence p t)) c) where
+  pub trains-asks : Below 1000000 (toZ w32 (ofZ w32 b)) × Below 1000000 (toZ w32 (ofZ w32 c))
+  trains-asks = summands (tb .small) (tc .small) (lit≤ tt)
+
+  pub train-is : {z : ℤ} → z ≡ toZ w32 (ofZ w32 b) +ℤ toZ w32 (ofZ w32 c) → Emits xs (Figure (trainTenths p t)) (Figure (toZ w32 (ofZ w32 z)))
+  unfolding trainTenths SmallLevel
+  train-is e =
+      let s = summed (tb .small) (tc .small) (lit≤ tt) e in
+      let back = below-back (below-more (lit≤ tt) (s .small)) in
+      record {
+        is = λ w. ap Figure (back ∙ s .is ∙ ap₂ _+ℤ_ (tb .is w) (tc .is w) ∙ trains-last (nearest (speedFence t)) (nearest (vehiclesFence t)) (nearest (trainsFence p t)) (rollingTenths t));
+        small = subst (Below 20000) (sym back) (below-more (lit≤ tt) (s .small));
+      }
 
 -- ---- for every figure
 

@@ -4,9 +4,10 @@ use mathlib.Core.Path.{_≡_}
 use mathlib.Core.Bool.{true, false}
 use mathlib.Core.List.{List}
 use Prim.Native.Nat.{ℕ, _≤_, _<_}
-use lib.IntN.{ℤ}
+use lib.IntN.{ℤ, _+ℤ_}
 use Rattle.decibel.specs.Ints.{up, dn}
 use Rattle.decibel.specs.Tables.{Tables}
+use Rattle.decibel.specs.Round.{nearest}
 use Rattle.decibel.specs.declared.Level.{Level}
 use Rattle.decibel.specs.declared.Level.the-variants.{Silent, Figure}
 use Rattle.steps.specs.declared.Segment.{Segment}
@@ -17,6 +18,7 @@ use Rattle.steps.specs.declared.Check.{Check}
 use Rattle.steps.specs.declared.Check.the-variants.{Accepted}
 use Rattle.steps.specs.Refusal.{unless}
 use Rattle.steps.specs.Geometry.{squared, lengthOf, pathDifference, inShadow}
+use Rattle.steps.specs.Step.{speedFence, vehiclesFence, rollingTenths}
 use Rattle.steps.specs.Rules.{distanceKept, heightsKept, softKept, anglesKept, unscreened, screenKept}
 
 -- the number is small, on either side of zero
@@ -35,6 +37,11 @@ pub record Propagates (xs : List ℕ) (v r : Propagation) : Type 0 where
 unfoldable pub SmallLevel : Level → Type 0
 SmallLevel Silent = Unit {0}
 SmallLevel (Figure r) = Below 20000 r
+
+-- what a train adds in every period in which it runs: the sum of speed, vehicles and its row's figure
+pub record Base (xs : List ℕ) (t : Train) (r : ℤ) : Type 0 where
+  pub is : Tables xs → r ≡ nearest (speedFence t) +ℤ (nearest (vehiclesFence t) +ℤ rollingTenths t)
+  pub small : Below 4200 r
 
 pub record Emits (xs : List ℕ) (v r : Level) : Type 0 where
   pub is : Tables xs → r ≡ v

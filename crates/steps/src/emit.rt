@@ -4,10 +4,11 @@ ghost use Prim.Native.Nat.{_-_, _≤_, _<_};
 ghost use lib.IntN.{pos};
 ghost use lib.ListN.{getD};
 ghost use Rattle.decibel.specs.Round.{nearest};
-ghost use Rattle.decibel.specs.declared.Level.the-variants.{Figure};
+ghost use Rattle.steps.specs.declared.Period.the-variants.{Day, Night};
+ghost use Rattle.steps.specs.Rules.{trainCheck};
 ghost use Rattle.steps.specs.Step.{rollings, rollingTenths, speedFence, vehiclesFence, trainsFence, trainsIn, hoursTenths};
-ghost use Rattle.steps.specs.Entry.{trainTenths, emissionOf};
-ghost use Rattle.steps.specs.Parts.{TrainRanges, Tenths, Emits};
+ghost use Rattle.steps.specs.Entry.{emissionOf};
+ghost use Rattle.steps.specs.Parts.{TrainRanges, Tenths, Base, Emits};
 use crate::Check;
 use crate::Period;
 use crate::Train;
@@ -16,6 +17,12 @@ use crate::less;
 use crate::natural;
 use crate::plus;
 use decibel::Level;
+
+// What a train emits by day and by night.
+pub struct Emissions {
+    pub day: Level,
+    pub night: Level,
+}
 
 // Table A1.1's rolling figures, in tenths.
 const ROLLINGS: [u32; 34] = [
@@ -113,25 +120,34 @@ pub(crate) fn trains_step(t: &[u64], train: Train, period: Period) -> i32
     less(decibel::ten_log(t, trains_in(train, period)), hours(period))
 }
 
-// The sum, in a period in which the train runs.
-fn train_level(t: &[u64], train: Train, period: Period) -> Level
-    requires { ⌜ TrainRanges train × (0 < trainsIn period train) ⌝ }
-    ensures { λ r. ⌜ Emits (now (t .entry)) (Figure (trainTenths period train)) r ⌝ }
-{
-    let trains = plus(trains_step(t, train, period), rolling(train));
-    Level::Figure(plus(speed_step(t, train), plus(vehicles_step(t, train), trains)))
-}
-
-pub fn emission_of(t: &[u64], train: Train, period: Period) -> Level
+// The level of an accepted train in a period, from the sum of what does not depend on the period.
+fn period_level(t: &[u64], train: Train, period: Period, base: i32) -> Level
+    requires { ⌜ (trainCheck train ≡ Check.Accepted) × Base (now t) train base ⌝ }
     ensures { λ r. ⌜ Emits (now (t .entry)) (emissionOf period train) r ⌝ }
 {
+    if trains_in(train, period) == 0 {
+        return Level::Silent;
+    }
+    Level::Figure(plus(base, trains_step(t, train, period)))
+}
+
+pub fn emissions_of(t: &[u64], train: Train) -> Emissions
+    ensures { λ r. ⌜ Emits (now (t .entry)) (emissionOf Day train) (r .day) × Emits (now (t .entry)) (emissionOf Night train) (r .night) ⌝ }
+{
     match checks::train_check(train) {
-        Check::Refused(_) => Level::Silent,
+        Check::Refused(_) => Emissions {
+            day: Level::Silent,
+            night: Level::Silent,
+        },
         Check::Accepted => {
-            if trains_in(train, period) == 0 {
-                return Level::Silent;
+            let base = plus(
+                speed_step(t, train),
+                plus(vehicles_step(t, train), rolling(train)),
+            );
+            Emissions {
+                day: period_level(t, train, Period::Day, base),
+                night: period_level(t, train, Period::Night, base),
             }
-            train_level(t, train, period)
         }
     }
 }

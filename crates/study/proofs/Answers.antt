@@ -1,24 +1,28 @@
 -- The request for levels: which refusal applies, and what the cells hold after both periods are written.
 -- Assumes nothing.
-use mathlib.Core.Path.{_≡_, sym, ap, _∙_}
+use mathlib.Core.Path.{_≡_, refl, sym, ap, _∙_}
 use mathlib.Core.List.{List, _++_, append-assoc}
 use Prim.Native.Nat.{ℕ, _+_, _-_, _<_, _≤_}
 use native.Mathlib.Omega.{arith}
 use borrow.Author.Tests.{lt-ltb, le-ltb, le-leb, lt-leb}
 use lib.IntN.{ℤ}
-use lib.ListN.{length, take, drop}
-use lib.Seq.{paste, take-all, take-at, drop-at, drop-append-add, drop-drop}
+use lib.ListN.{length, take, drop, getD, set, length-append}
+use lib.Seq.{paste, paste-zero, length-paste, length-take-le, take-all, take-at, drop-at, drop-append-add, drop-drop, set-append-left, take-set-lt, drop-set-lt}
 use Rattle.steps.specs.declared.Period.the-variants.{Day, Night}
 use Rattle.steps.specs.declared.Refusal.{Refusal}
 use Rattle.steps.specs.declared.Refusal.the-variants.{NoEntry, FewCells}
 use Rattle.steps.specs.declared.Check.the-variants.{Accepted, Refused}
+use Rattle.steps.specs.declared.Propagation.{Propagation}
 use Rattle.steps.specs.Refusal.{unless}
+use Rattle.steps.specs.Entry.{emissionOf, raised}
+use Rattle.study.specs.declared.Entry.{Entry}
 use Rattle.study.specs.declared.Study.{Study}
 use Rattle.study.specs.declared.request.Answer.{Answer}
-use Rattle.study.specs.Plan.{Plan, planOf}
-use Rattle.study.specs.Levels.{levelsOf, levelAt, ownMarks}
+use Rattle.study.specs.Plan.{Plan, planOf, noEntry}
+use Rattle.study.specs.Levels.{levelsOf, levelAt, cellOf, ownMarks}
 use Rattle.study.specs.Request.{levelsCheck, cellsBy, cellsAnswered, answerBy, refusedBy, Answered}
-use Rattle.study.proofs.Cells.{cellsOf, cells-length}
+use Rattle.study.specs.Parts.{noPropagation, Propagated}
+use Rattle.study.proofs.Cells.{cellsOf, cells-length, cell-written}
 use Rattle.study.proofs.Results.{own-allowed}
 
 -- ---- which refusal applies
@@ -38,6 +42,17 @@ module _ (plan : Plan) (n : ℕ) where
 
 -- ---- the cells: the day's, then the night's, then what further cells held
 
+-- the first i levels of each period are written
+abbrev pub filled : Plan → List ℤ → ℕ → ℕ → List ℤ
+filled plan cells t i = paste (paste cells 0 (cellsOf Day plan) i) t (cellsOf Night plan) i
+
+-- a store to a place before a copy
+set-before : (d : List ℤ) (at : ℕ) (s : List ℤ) (n i : ℕ) (a : ℤ) → i < at → at ≤ length d → set (paste d at s n) i a ≡ paste (set d i a) at s n
+set-before d at s n i a h l =
+    let inside : i < length (take at d) = omega (arith, length-take-le at d l) in
+    set-append-left (take at d ++ take n s) (drop (at + n) d) i a (omega (arith, length-append (take at d) (take n s)))
+    ∙ rw (set-append-left (take at d) (take n s) i a inside, ← take-set-lt at d i a h, drop-set-lt (at + n) d i a (omega arith))
+
 module _ (plan : Plan) (cells : List ℤ) (t : ℕ) (count : t ≡ length (plan .entries)) where
   days-length : length (cellsOf Day plan) ≡ t
   days-length = cells-length Day plan ∙ sym count
@@ -45,11 +60,25 @@ module _ (plan : Plan) (cells : List ℤ) (t : ℕ) (count : t ≡ length (plan 
   nights-length : length (cellsOf Night plan) ≡ t
   nights-length = cells-length Night plan ∙ sym count
 
-  -- both periods' levels are written
-  pub record Written (after : List ℤ) : Type 0 where
-    pub is : after ≡ cellsOf Day plan ++ (cellsOf Night plan ++ drop (t + t) cells)
+  pub none-filled : cells ≡ filled plan cells t 0
+  none-filled = paste-zero cells 0 (cellsOf Day plan) ∙ paste-zero _ t (cellsOf Night plan)
 
-  both-pasted : paste (paste cells 0 (cellsOf Day plan) t) t (cellsOf Night plan) t ≡ cellsOf Day plan ++ (cellsOf Night plan ++ drop (t + t) cells)
+  -- the two cells of one entry more
+  pub both-written : (found : List Propagation) → Propagated plan found → (i : ℕ) {after : List ℤ} {e : Entry} {d n : ℤ} → t + t ≤ length cells → i < t → e ≡ getD (plan .entries) i noEntry
+      → d ≡ cellOf (raised (getD found (e .segment) noPropagation .tenths) (emissionOf Day (e .train))) → n ≡ cellOf (raised (getD found (e .segment) noPropagation .tenths) (emissionOf Night (e .train)))
+      → after ≡ filled plan cells t i → set (set after i d) (t + i) n ≡ filled plan cells t (i + 1)
+  both-written found all i {after} {e} {d} {n} room h is day night done =
+      let days = cellsOf Day plan in
+      let nights = cellsOf Night plan in
+      let kept : length (paste cells 0 days i) ≡ length cells = length-paste cells 0 days i (omega arith) (omega (arith, days-length)) in
+      let more : length (paste cells 0 days (i + 1)) ≡ length cells = length-paste cells 0 days (i + 1) (omega arith) (omega (arith, days-length)) in
+      let here : i ≡ 0 + i = omega arith in
+      let first : set after i d ≡ paste (paste cells 0 days (i + 1)) t nights i =
+      ap (λ (x : List ℤ). set x i d) done ∙ set-before (paste cells 0 days i) t nights i i d h (omega arith)
+      ∙ ap (λ (x : List ℤ). paste x t nights i) (ap (λ (k : ℕ). set (paste cells 0 days i) k d) here ∙ cell-written Day plan found all cells 0 i is day (omega arith) (omega arith) refl) in
+      cell-written Night plan found all (paste cells 0 days (i + 1)) t i is night (omega arith) (omega arith) first
+
+  both-pasted : filled plan cells t t ≡ cellsOf Day plan ++ (cellsOf Night plan ++ drop (t + t) cells)
   both-pasted =
       let days = cellsOf Day plan in
       let nights = cellsOf Night plan in
@@ -60,22 +89,22 @@ module _ (plan : Plan) (cells : List ℤ) (t : ℕ) (count : t ≡ length (plan 
       ap (λ (k : ℕ). drop (k + t) rest) (sym days-length) ∙ drop-append-add days (drop (0 + t) cells) t ∙ drop-drop t (0 + t) cells ∙ ap (λ (k : ℕ). drop k cells) w in
       rw (first, take-at days (drop (0 + t) cells) t days-length, take-all t nights (omega (arith, nights-length)), past) (append-assoc days nights (drop (t + t) cells))
 
-  pub written : (first after : List ℤ) → first ≡ paste cells 0 (cellsOf Day plan) (length (plan .entries)) → after ≡ paste first t (cellsOf Night plan) (length (plan .entries)) → Written after
-  written first after e f = record { is = f ∙ ap (λ (x : List ℤ). paste x t (cellsOf Night plan) (length (plan .entries))) e ∙ rw (← count) both-pasted }
+  parts : cellsOf Day plan ++ (cellsOf Night plan ++ drop (t + t) cells) ≡ cellsAnswered plan (ownMarks plan) cells
+  unfolding cellsAnswered levelsOf levelAt ownMarks
+  parts = rw count
 
-  module _ {after : List ℤ} (w : Written after) where
+  pub all-written : {after : List ℤ} → after ≡ filled plan cells t t → after ≡ cellsAnswered plan (ownMarks plan) cells
+  all-written e = e ∙ both-pasted ∙ parts
+
+  module _ {after : List ℤ} (is : after ≡ cellsAnswered plan (ownMarks plan) cells) where
     pub day-part : take t after ≡ cellsOf Day plan
-    day-part = ap (take t) (w .is) ∙ take-at (cellsOf Day plan) (cellsOf Night plan ++ drop (t + t) cells) t days-length
+    day-part = ap (take t) (is ∙ sym parts) ∙ take-at (cellsOf Day plan) (cellsOf Night plan ++ drop (t + t) cells) t days-length
 
     pub night-part : take (t + t - t) (drop t after) ≡ cellsOf Night plan
     night-part =
         let e : t + t - t ≡ t = omega arith in
-        ap (λ (k : ℕ). take k (drop t after)) e ∙ ap (λ (x : List ℤ). take t (drop t x)) (w .is)
+        ap (λ (k : ℕ). take k (drop t after)) e ∙ ap (λ (x : List ℤ). take t (drop t x)) (is ∙ sym parts)
         ∙ ap (take t) (drop-at (cellsOf Day plan) (cellsOf Night plan ++ drop (t + t) cells) t days-length) ∙ take-at (cellsOf Night plan) (drop (t + t) cells) t nights-length
-
-    pub cells-answered : after ≡ cellsAnswered plan (ownMarks plan) cells
-    unfolding cellsAnswered levelsOf levelAt ownMarks
-    cells-answered = w .is ∙ rw count
 
 -- ---- the whole answer
 

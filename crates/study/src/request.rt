@@ -2,17 +2,16 @@
 ghost use mathlib.Core.Path.{_≡_};
 ghost use mathlib.Core.Bool.{cond};
 ghost use mathlib.Core.List.{map};
-ghost use Prim.Native.Nat.{_+_, _*_, _-_, _≤_, min};
+ghost use Prim.Native.Nat.{_*_, _-_, _≤_, min};
 ghost use lib.IntN.{pos};
 ghost use lib.ListN.{length, getD};
-ghost use lib.Seq.{paste};
 ghost use Rattle.decibel.specs.Tables;
 ghost use Rattle.energy.specs.Parts;
 ghost use Rattle.steps.specs.Entry.{raised};
 ghost use Rattle.steps.specs.Parts.{Below, SmallLevel};
 ghost use Rattle.study.specs.Plan.{planOf};
 ghost use Rattle.study.specs.Levels.{cellOf, levelsOf, limitOf, metBy, resultBy, groundMarks, ownMarks};
-ghost use Rattle.study.specs.Request.{Answered, answerBy, refusedBy, cellsAnswered};
+ghost use Rattle.study.specs.Request.{Answered, answerBy, refusedBy, cellsNeeded, cellsAnswered};
 ghost use Rattle.study.specs.Parts.{noPropagation, Propagated, SegmentsHeard, CloseCount, Enough, markedBy};
 use crate::Study;
 use decibel::Level;
@@ -83,27 +82,24 @@ fn cell_of(tenths: i32, emission: Level) -> i32
     }
 }
 
-// Writes a period's levels into the cells from `at` on.
-fn fill(
-    tables: &[u64],
-    study: Study,
-    found: [Propagation; 24],
-    period: Period,
-    at: usize,
-    cells: &mut [i32],
-)
+// Writes both periods' levels into the cells in one pass: a train's speed, vehicles and row serve both.
+fn fill(tables: &[u64], study: Study, found: [Propagation; 24], cells: &mut [i32])
     requires { ⌜ Tables.Tables (now tables) ⌝ }
     requires { ⌜ Propagated (planOf study) found ⌝ }
-    requires { ⌜ at + length (planOf study .entries) ≤ length (now cells) ⌝ }
-    ensures { λ _. ⌜ now (cells .exit) ≡ paste (now (cells .entry)) at (map cellOf (levelsOf period (planOf study) (groundMarks (planOf study)))) (length (planOf study .entries)) ⌝ }
+    requires { ⌜ cellsNeeded (length (planOf study .entries)) ≤ length (now cells) ⌝ }
+    ensures { λ _. ⌜ now (cells .exit) ≡ cellsAnswered (planOf study) (ownMarks (planOf study)) (now (cells .entry)) ⌝ }
 {
     let total = at_most(study.total, 96);
-    let mut i: usize = 0;
-    while i < total {
-        let entry = study.entries[i];
-        let emission = steps::emit::emission_of(tables, entry.train, period);
-        cells[at + i] = cell_of(tenths_at(found, entry.segment), emission);
-        i += 1;
+    let mut at: usize = 0;
+    while at < total {
+        let entry = study.entries[at];
+        let emissions = steps::emit::emissions_of(tables, entry.train);
+        let day = emissions.day;
+        let night = emissions.night;
+        let tenths = tenths_at(found, entry.segment);
+        cells[at] = cell_of(tenths, day);
+        cells[total + at] = cell_of(tenths, night);
+        at += 1;
     }
 }
 
@@ -221,8 +217,7 @@ fn answered(study: Study, total: usize, cells: &mut [i32]) -> Answer
     let tables = decibel::tables();
     let weights = energy::tables();
     let found = propagations_of(&tables, study);
-    fill(&tables, study, found, Period::Day, 0, cells);
-    fill(&tables, study, found, Period::Night, total, cells);
+    fill(&tables, study, found, cells);
     let end = total + total;
     Answer {
         check: Check::Accepted,
