@@ -13,12 +13,25 @@ ghost use Rattle.study.specs.Plan.{planOf};
 ghost use Rattle.study.specs.Levels.{cellOf, levelsOf, limitOf, metBy, resultBy, groundMarks, ownMarks};
 ghost use Rattle.study.specs.Request.{Answered, answerBy, refusedBy, cellsNeeded, cellsAnswered};
 ghost use Rattle.study.specs.Parts.{noPropagation, Propagated, SegmentsHeard, CloseCount, Enough, markedBy};
+use crate::MOST_ENTRIES;
+use crate::MOST_SEGMENTS;
 use crate::Study;
 use decibel::Level;
 use steps::Check;
 use steps::Period;
 use steps::Propagation;
 use steps::Refusal;
+
+// What a working cell (01's term) holds of an entry that has no trains in the period.
+const SILENT_CELL: i32 = -9999;
+
+// The least level that a cell can hold, in tenths: any below it is silent.
+const LEAST_LEVEL: i32 = -2000;
+
+// The tenths from which a level, to the nearest whole decibel, is 68 dB by day and 63 dB by night or more.
+const DAY_LIMIT: i32 = 675;
+
+const NIGHT_LIMIT: i32 = 625;
 
 // A period's result: its total level, how many close marks it rests on, and whether its limit is met.
 pub struct PeriodResult {
@@ -42,15 +55,15 @@ fn at_most(n: usize, most: usize) -> usize
 }
 
 // What each of the study's segments adds to the level of its entries; nothing at the places past them.
-fn propagations_of(tables: &[u64], study: Study) -> [Propagation; 24]
+fn propagations_of(tables: &[u64], study: Study) -> [Propagation; MOST_SEGMENTS]
     requires { ⌜ Tables.Tables (now tables) ⌝ }
     ensures { λ r. ⌜ Propagated (planOf study) r ⌝ }
 {
-    let count = at_most(study.count, 24);
+    let count = at_most(study.count, MOST_SEGMENTS);
     let mut found = [Propagation {
         tenths: 0,
         close: false,
-    }; 24];
+    }; MOST_SEGMENTS];
     let mut k: usize = 0;
     while k < count {
         let segment = study.segments[k];
@@ -61,10 +74,10 @@ fn propagations_of(tables: &[u64], study: Study) -> [Propagation; 24]
 }
 
 // What the segment at a place adds.
-fn tenths_at(found: [Propagation; 24], k: usize) -> i32
+fn tenths_at(found: [Propagation; MOST_SEGMENTS], k: usize) -> i32
     ensures { λ r. ⌜ r ≡ getD found k noPropagation .tenths ⌝ }
 {
-    if k < 24 {
+    if k < MOST_SEGMENTS {
         let propagation = found[k];
         return propagation.tenths;
     }
@@ -77,19 +90,19 @@ fn cell_of(tenths: i32, emission: Level) -> i32
     ensures { λ r. ⌜ r ≡ cellOf (raised tenths emission) ⌝ }
 {
     match emission {
-        Level::Silent => -9999,
+        Level::Silent => SILENT_CELL,
         Level::Figure(r) => tenths + r,
     }
 }
 
 // Writes both periods' levels into the cells in one pass: a train's speed, vehicles and row serve both.
-fn fill(tables: &[u64], study: Study, found: [Propagation; 24], cells: &mut [i32])
+fn fill(tables: &[u64], study: Study, found: [Propagation; MOST_SEGMENTS], cells: &mut [i32])
     requires { ⌜ Tables.Tables (now tables) ⌝ }
     requires { ⌜ Propagated (planOf study) found ⌝ }
     requires { ⌜ cellsNeeded (length (planOf study .entries)) ≤ length (now cells) ⌝ }
     ensures { λ _. ⌜ now (cells .exit) ≡ cellsAnswered (planOf study) (ownMarks (planOf study)) (now (cells .entry)) ⌝ }
 {
-    let total = at_most(study.total, 96);
+    let total = at_most(study.total, MOST_ENTRIES);
     let mut at: usize = 0;
     while at < total {
         let entry = study.entries[at];
@@ -113,16 +126,16 @@ fn mark(heard: &mut [bool], k: usize, sounds: bool)
 }
 
 // Which segments have an entry whose cell holds a level.
-fn heard_segments(study: Study, levels: &[i32]) -> [bool; 24]
+fn heard_segments(study: Study, levels: &[i32]) -> [bool; MOST_SEGMENTS]
     requires { ⌜ length (planOf study .entries) ≡ length (now levels) ⌝ }
     ensures { λ r. ⌜ SegmentsHeard (planOf study .entries) (now (levels .entry)) r ⌝ }
 {
-    let total = at_most(study.total, 96);
-    let mut heard = [false; 24];
+    let total = at_most(study.total, MOST_ENTRIES);
+    let mut heard = [false; MOST_SEGMENTS];
     let mut i: usize = 0;
     while i < total {
         let entry = study.entries[i];
-        mark(&mut heard, entry.segment, -2000 <= levels[i]);
+        mark(&mut heard, entry.segment, LEAST_LEVEL <= levels[i]);
         i += 1;
     }
     heard
@@ -136,12 +149,12 @@ fn one(test: bool) -> u32
 }
 
 // How many segments are heard and marked as close.
-fn close_count(found: [Propagation; 24], heard: [bool; 24]) -> u32
+fn close_count(found: [Propagation; MOST_SEGMENTS], heard: [bool; MOST_SEGMENTS]) -> u32
     ensures { λ r. ⌜ CloseCount found heard r ⌝ }
 {
     let mut close: u32 = 0;
     let mut k: usize = 0;
-    while k < 24 {
+    while k < MOST_SEGMENTS {
         let propagation = found[k];
         close += one(propagation.close & heard[k]);
         k += 1;
@@ -149,13 +162,13 @@ fn close_count(found: [Propagation; 24], heard: [bool; 24]) -> u32
     close
 }
 
-// The tenths from which a level is the period's limit or more, to the nearest whole decibel: 68 dB by day, 63 dB by night.
+// The tenths from which a level meets the period's limit.
 fn limit_tenths(period: Period) -> i32
     ensures { λ r. ⌜ r ≡ pos (10 * limitOf period - 5) ⌝ }
 {
     match period {
-        Period::Day => 675,
-        Period::Night => 625,
+        Period::Day => DAY_LIMIT,
+        Period::Night => NIGHT_LIMIT,
     }
 }
 
@@ -173,7 +186,7 @@ fn is_met(period: Period, level: Level) -> bool
 fn period_of(
     weights: &[u64],
     study: Study,
-    found: [Propagation; 24],
+    found: [Propagation; MOST_SEGMENTS],
     period: Period,
     levels: &[i32],
 ) -> PeriodResult
@@ -230,7 +243,7 @@ fn answered(study: Study, total: usize, cells: &mut [i32]) -> Answer
 pub fn levels(study: Study, cells: &mut [i32]) -> Answer
     ensures { λ r. ⌜ Answered study (now (cells .entry)) (now (cells .exit)) r ⌝ }
 {
-    let total = at_most(study.total, 96);
+    let total = at_most(study.total, MOST_ENTRIES);
     if total == 0 {
         return turned_back(Refusal::NoEntry);
     }
