@@ -2,7 +2,8 @@
 pub mod request;
 
 ghost use mathlib.Core.Path.{_≡_};
-ghost use Rattle.study.specs.Plan.{emptyStudy, planOf};
+ghost use Prim.Native.Nat.{min};
+ghost use Rattle.study.specs.Plan.{noSegment, noEntry, emptyStudy, planOf};
 ghost use Rattle.study.specs.Add.{ours, segmentLimit, segmentAnswer, trainLimit, trainAnswer, addSegment, addTrain};
 ghost use Rattle.study.specs.Run.{run, listed};
 use steps::Check;
@@ -35,11 +36,11 @@ pub struct Added {
     pub check: Check,
 }
 
-// The study with nothing in it.
-pub fn empty() -> Study
-    ensures { λ r. ⌜ r ≡ emptyStudy ⌝ }
+// What stands in a place that no segment was added to.
+pub fn no_segment() -> Segment
+    ensures { λ r. ⌜ r ≡ noSegment ⌝ }
 {
-    let segment = Segment {
+    Segment {
         distance: 0,
         height: 0,
         mean: 0,
@@ -54,7 +55,13 @@ pub fn empty() -> Study
         ballast: 0,
         facade: 0,
         opposite: 0,
-    };
+    }
+}
+
+// What stands in a place that no entry was added to.
+pub fn no_entry() -> Entry
+    ensures { λ r. ⌜ r ≡ noEntry ⌝ }
+{
     let train = Train {
         row: 0,
         speed: 0,
@@ -62,14 +69,17 @@ pub fn empty() -> Study
         day: 0,
         night: 0,
     };
-    let entry = Entry {
-        segment: 0,
-        train: train,
-    };
+    Entry { segment: 0, train }
+}
+
+// The study with nothing in it.
+pub fn empty() -> Study
+    ensures { λ r. ⌜ r ≡ emptyStudy ⌝ }
+{
     Study {
-        segments: [segment; MOST_SEGMENTS],
+        segments: [no_segment(); MOST_SEGMENTS],
         count: 0,
-        entries: [entry; MOST_ENTRIES],
+        entries: [no_entry(); MOST_ENTRIES],
         total: 0,
     }
 }
@@ -143,6 +153,13 @@ pub fn add_train(mut study: Study, train: Train) -> Added
     Added { study, check }
 }
 
+// The smaller of two numbers.
+fn at_most(n: usize, most: usize) -> usize
+    ensures { λ r. ⌜ r ≡ min n most ⌝ }
+{
+    if n < most { n } else { most }
+}
+
 // The study of these segments and entries, added one after another: each segment, then the trains of its entries.
 pub fn study_of(
     segments: [Segment; MOST_SEGMENTS],
@@ -152,17 +169,8 @@ pub fn study_of(
 ) -> Study
     ensures { λ r. ⌜ r ≡ run ours (listed (planOf (record { segments = segments; count = count; entries = entries; total = total }))) ⌝ }
 {
-    // No more than the arrays hold, whatever the counts say.
-    let places = if count < MOST_SEGMENTS {
-        count
-    } else {
-        MOST_SEGMENTS
-    };
-    let rows = if total < MOST_ENTRIES {
-        total
-    } else {
-        MOST_ENTRIES
-    };
+    let places = at_most(count, MOST_SEGMENTS);
+    let rows = at_most(total, MOST_ENTRIES);
     let mut study = empty();
     let mut k: usize = 0;
     while k < places {

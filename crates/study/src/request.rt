@@ -2,7 +2,7 @@
 ghost use mathlib.Core.Path.{_≡_};
 ghost use mathlib.Core.Bool.{cond};
 ghost use mathlib.Core.List.{map};
-ghost use Prim.Native.Nat.{_*_, _-_, _≤_, min};
+ghost use Prim.Native.Nat.{_*_, _-_, _≤_};
 ghost use lib.IntN.{pos};
 ghost use lib.ListN.{length, getD};
 ghost use Rattle.decibel.specs.Tables;
@@ -16,6 +16,7 @@ ghost use Rattle.study.specs.Parts.{noPropagation, Propagated, SegmentsH
 use crate::MOST_ENTRIES;
 use crate::MOST_SEGMENTS;
 use crate::Study;
+use crate::at_most;
 use decibel::Level;
 use steps::Check;
 use steps::Period;
@@ -45,13 +46,6 @@ pub struct Answer {
     pub check: Check,
     pub day: PeriodResult,
     pub night: PeriodResult,
-}
-
-// The smaller of two numbers.
-fn at_most(n: usize, most: usize) -> usize
-    ensures { λ r. ⌜ r ≡ min n most ⌝ }
-{
-    if n < most { n } else { most }
 }
 
 // What each of the study's segments adds to the level of its entries; nothing at the places past them.

@@ -1,6 +1,6 @@
 -- What stands at a position of a text: no line, bytes that no line feed ends, or a line; and what is read of it.
 -- Assumes nothing.
-use mathlib.Core.Path.{_≡_, refl, sym, ap}
+use mathlib.Core.Path.{_≡_, refl, sym, ap, _∙_}
 use mathlib.Core.Logic.{⊎-elim}
 use Prim.Native.Nat.{ℕ, suc, _+_, _≤_, _<_}
 use mathlib.Core.List.{List, [], _∷_}
@@ -8,13 +8,17 @@ use native.Mathlib.Omega.{arith}
 use lib.ListN.{length, drop, length-drop, drop-of-length-le}
 use lib.Seq.{drop-drop}
 use borrow.Author.Tests.{lt-ltb, le-ltb}
+use Rattle.steps.specs.declared.Refusal.{Refusal}
 use Rattle.steps.specs.declared.Refusal.the-variants as R
+use Rattle.steps.specs.declared.Check.{Check}
+use Rattle.steps.specs.declared.Check.the-variants.{Accepted, Refused}
 use Rattle.steps.specs.declared.Segment.{Segment}
 use Rattle.steps.specs.declared.Train.{Train}
+use Rattle.study.specs.Add.{ours}
 use Rattle.text.specs.Bytes.{until, split}
 use Rattle.text.specs.Lines.{segmentOf, trainOf}
 use Rattle.text.specs.Text.{ended, torn, lastLine, linesIn, linesOf}
-use Rattle.text.specs.Parts.{Found, firstRead, SegmentAt, TrainAt, faultOf}
+use Rattle.text.specs.Parts.{Found, firstAnswer, segmentLineAnswer, trainLineAnswer, SegmentAt, TrainAt, faultOf}
 use Rattle.text.specs.declared.lines.SegmentLine.the-variants as S
 use Rattle.text.specs.declared.lines.TrainLine.the-variants as T
 use Rattle.text.specs.declared.SegmentStep.{SegmentStep}
@@ -59,34 +63,40 @@ view text at = ⊎-elim (λ h. ⊎-elim (more h) (rest h) (lt-or-ge k (length (d
         at-line (omega (arith, length-drop at text))
         (rw (split-first 10 (drop at text), lt-ltb k (length (drop at text)) l, drop-drop (suc k) at text, e) (lines-more (until 10 (drop at text)) (drop (at + k + 1) text)))
 
--- what is read of the line at a position, on each way
-module _ {A : Type 0} (malformed : A) (read : List ℕ → A) (text : List ℕ) (at : ℕ) {line : List ℕ} (q : line ≡ until 10 (drop at text)) where
-  pub unended-malformed : length text ≤ at + length line → firstRead malformed read (linesOf (drop at text)) ≡ malformed
-  unfolding firstRead
-  unended-malformed h = go (view text at)
+-- a line that a line feed ends
+pub record Standing (text : List ℕ) (at : ℕ) (line : List ℕ) : Type 0 where
+  pub is : line ≡ until 10 (drop at text)
+  pub feed : at + length line < length text
+
+line-stands : {text : List ℕ} {at : ℕ} {line : List ℕ} → Standing text at line → linesOf (drop at text) ≡ ended line ∷ linesOf (drop (at + length line + 1) text)
+line-stands {text} {at} {line} w = go (view text at)
+  where
+    go : View text at → linesOf (drop at text) ≡ ended line ∷ linesOf (drop (at + length line + 1) text)
+    go (at-end m e) = absurd (omega arith)
+    go (at-torn m z e) = absurd (omega (arith, ap length (w .is)))
+    go (at-line m e) = rw (w .is) e
+
+-- what the line at a position answers, on each way
+module _ {A : Type 0} (read : List ℕ → A) (answers : A → Check) where
+  pub unended-refused : (text : List ℕ) (at : ℕ) {line : List ℕ} → line ≡ until 10 (drop at text) → length text ≤ at + length line → {f : Refusal} → f ≡ faultOf (linesOf (drop at text))
+      → firstAnswer read answers (linesOf (drop at text)) ≡ Refused f
+  unfolding firstAnswer
+  unended-refused text at q h e = rw e (go (view text at))
     where
-      go : View text at → firstRead malformed read (linesOf (drop at text)) ≡ malformed
-      go (at-end m e) = rw e
-      go (at-torn m z e) = rw e
-      go (at-line m e) = absurd (omega (arith, ap length q))
+      go : View text at → firstAnswer read answers (linesOf (drop at text)) ≡ Refused (faultOf (linesOf (drop at text)))
+      go (at-end m l) = rw l
+      go (at-torn m z l) = rw l
+      go (at-line m l) = absurd (omega (arith, ap length q))
 
-  module _ (h : at + length line < length text) where
-    line-stands : linesOf (drop at text) ≡ ended line ∷ linesOf (drop (at + length line + 1) text)
-    line-stands = go (view text at)
-      where
-        go : View text at → linesOf (drop at text) ≡ ended line ∷ linesOf (drop (at + length line + 1) text)
-        go (at-end m e) = absurd (omega arith)
-        go (at-torn m z e) = absurd (omega (arith, ap length q))
-        go (at-line m e) = rw q e
+  module _ {text : List ℕ} {at : ℕ} {line : List ℕ} (w : Standing text at line) {r fields : A} (e : r ≡ read line) (z : r ≡ fields) where
+    pub fields-refused : {f : Refusal} → answers fields ≡ Refused f → firstAnswer read answers (linesOf (drop at text)) ≡ Refused f
+    unfolding firstAnswer
+    fields-refused n = rw (line-stands w, ← e, z) n
 
-    pub fields-malformed : malformed ≡ read line → firstRead malformed read (linesOf (drop at text)) ≡ malformed
-    unfolding firstRead
-    fields-malformed e = rw line-stands (sym e)
+    pub fields-found : answers fields ≡ Accepted → Found read answers fields text at (at + length line + 1)
+    fields-found n = record { line = line; is = sym z ∙ e; accepted = n; ahead = omega arith; within = omega arith; lines = line-stands w }
 
-    pub fields-found : {fields : A} → fields ≡ read line → Found read fields text at (at + length line + 1)
-    fields-found e = record { line = line; is = e; ahead = omega arith; within = omega arith; lines = line-stands }
-
--- why nothing could be read there
+-- why no line could be read there
 module _ (text : List ℕ) (at : ℕ) where
   pub fault-missing : length text ≤ at → R.Contents ≡ faultOf (linesOf (drop at text))
   fault-missing h = go (view text at)
@@ -104,10 +114,10 @@ module _ (text : List ℕ) (at : ℕ) where
       go (at-torn m z e) = rw e
       go (at-line m e) = rw e
 
--- the fields that were read there
-module _ {text : List ℕ} {at next : ℕ} where
-  pub segment-found : {r : SegmentStep} {s : Segment} → r ≡ SS.Fields s next → SegmentAt text at r → Found segmentOf (S.Fields s) text at next
+-- the fields that were taken there
+module _ {text : List ℕ} {at next : ℕ} (count : ℕ) where
+  pub segment-found : {r : SegmentStep} {s : Segment} → r ≡ SS.Taken s next → SegmentAt count text at r → Found segmentOf (segmentLineAnswer ours count) (S.Fields s) text at next
   segment-found e w = rw e at w
 
-  pub train-found : {r : TrainStep} {t : Train} → r ≡ TS.Fields t next → TrainAt text at r → Found trainOf (T.Fields t) text at next
-  train-found e w = rw e at w
+  pub train-found : (total : ℕ) {r : TrainStep} {t : Train} → r ≡ TS.Taken t next → TrainAt count total text at r → Found trainOf (trainLineAnswer ours count total) (T.Fields t) text at next
+  train-found total e w = rw e at w

@@ -6,22 +6,23 @@ use mathlib.Core.List.{List, [], _∷_}
 use native.Mathlib.Numerals.{add-one}
 use native.Mathlib.Omega.{arith}
 use native.Mathlib.Nat.{sub-zero}
-use lib.ListN.{length, take, getD, drop, drop-of-length-le}
+use lib.ListN.{length, take, set, getD, drop, drop-of-length-le}
 use lib.Seq.{drop-cons}
 use borrow.Author.Tests.{le-leb, lt-leb}
 use Rattle.steps.specs.declared.Refusal.{Refusal}
 use Rattle.steps.specs.declared.Refusal.the-variants as R
+use Rattle.steps.specs.declared.Check.{Check}
 use Rattle.steps.specs.declared.Check.the-variants.{Accepted, Refused}
 use Rattle.study.specs.declared.Study.{Study}
-use Rattle.study.specs.declared.Added.{Added}
 use Rattle.study.specs.Plan.{emptyStudy}
-use Rattle.study.specs.Add.{Limits}
+use Rattle.study.specs.Add.{Limits, answer, withSegment, withTrain, addSegment, addTrain}
 use Rattle.text.specs.Bytes.{until}
 use Rattle.text.specs.Lines.{segmentOf, trainOf}
 use Rattle.text.specs.Contents.{Read, contentsOf}
 use Rattle.text.specs.Text as K
-use Rattle.text.specs.Text.{Line, ended, torn, linesOf, Kind, trains, kindsOf, turnedBack, segmentAdds, trainAdds, addLine, acceptedWith, refusedAt, readLines, readBody, readFrom, readText}
-use Rattle.text.specs.Parts.{Found, firstRead, faultOf, ContentsRead}
+use Rattle.text.specs.Text.{Line, ended, torn, linesOf, Kind, trains, kindsOf, segmentAdds, trainAdds, addLine, acceptedWith, refusedAt, readLines, readBody, readFrom, readText}
+use Rattle.text.specs.Parts.{Found, segmentLineAnswer, trainLineAnswer, firstAnswer, ContentsRead}
+use Rattle.text.specs.declared.Reading.{Reading}
 use Rattle.text.specs.declared.contents.Contents as contents
 use Rattle.text.specs.declared.lines.SegmentLine.{SegmentLine}
 use Rattle.text.specs.declared.lines.SegmentLine.the-variants as S
@@ -33,37 +34,55 @@ use Rattle.text.proofs.Places.{View, at-end, at-torn, at-line, view}
 pub never : {A : Type 0} {r : Refusal} → Refused r ≡ Accepted → A
 never e = let z : _≡_ {A = ℕ} 0 1 = cc in absurd (omega arith)
 
--- ---- a kind of line: what is read of it, and what that adds
+-- ---- a kind of line: what is read of it, what that answers, and the study that it makes where it is accepted
 
-pub record Reader (l : Limits) (p : Kind) (A : Type 0) : Type 0 where
-  pub malformed : A
+pub record Reader (l : Limits) (p : Kind) (st : Study) (A : Type 0) : Type 0 where
   pub read : List ℕ → A
-  pub adds : Study → A → Added
-  pub refuses : (st : Study) → adds st malformed ≡ turnedBack st R.Form
-  pub line-adds : (st : Study) (line : List ℕ) → addLine l p st (ended line) ≡ adds st (read line)
+  pub answers : A → Check
+  pub new : A → Study
+  pub adds : (line : List ℕ) → addLine l p st (ended line) ≡ answer (answers (read line)) st (new (read line))
 
-module _ (l : Limits) (st : Study) (line : List ℕ) where
-  pub segment-adds : addLine l K.Segment st (ended line) ≡ segmentAdds l st (segmentOf line)
-  unfolding addLine
-  segment-adds = refl
+abbrev pub segmentNew : Study → SegmentLine → Study
+segmentNew st S.Malformed = st
+segmentNew st (S.Fields s) = withSegment st s
 
-  pub train-adds : addLine l K.Train st (ended line) ≡ trainAdds l st (trainOf line)
-  unfolding addLine
-  train-adds = refl
+-- `last` is the last segment's place, one less than their count
+abbrev pub trainNew : Study → ℕ → TrainLine → Study
+trainNew st last T.Malformed = st
+trainNew st last (T.Fields t) =
+    record { segments = st .segments; count = st .count; entries = set (st .entries) (st .total) (record { segment = last; train = t }); total = st .total + 1 }
 
-abbrev pub segmentReader : (l : Limits) → Reader l K.Segment SegmentLine
-segmentReader l = record { malformed = S.Malformed; read = segmentOf; adds = segmentAdds l; refuses = λ st. refl; line-adds = segment-adds l }
+module _ (l : Limits) (st : Study) where
+  pub segment-adds : (line : List ℕ) → addLine l K.Segment st (ended line) ≡ answer (segmentLineAnswer l (st .count) (segmentOf line)) st (segmentNew st (segmentOf line))
+  unfolding addLine addSegment answer
+  segment-adds line = go (segmentOf line)
+    where
+      go : (r : SegmentLine) → segmentAdds l st r ≡ answer (segmentLineAnswer l (st .count) r) st (segmentNew st r)
+      go S.Malformed = refl
+      go (S.Fields s) = refl
 
-abbrev pub trainReader : (l : Limits) → Reader l K.Train TrainLine
-trainReader l = record { malformed = T.Malformed; read = trainOf; adds = trainAdds l; refuses = λ st. refl; line-adds = train-adds l }
+  abbrev pub segmentReader : Reader l K.Segment st SegmentLine
+  segmentReader = record { read = segmentOf; answers = segmentLineAnswer l (st .count); new = segmentNew st; adds = segment-adds }
 
--- nothing could be read of the first line: it is at fault
-read-fault : {l : Limits} {p : Kind} {A : Type 0} (reader : Reader l p A) (st : Study) (k : ℕ) (ps : List Kind) (xs : List Line)
-    → firstRead (reader .malformed) (reader .read) xs ≡ reader .malformed → readLines l st k (p ∷ ps) xs ≡ refusedAt (faultOf xs) k
-unfolding readLines firstRead addLine
-read-fault reader st k ps [] e = refl
-read-fault reader st k ps (torn ∷ xs) e = refl
-read-fault reader st k ps (ended line ∷ xs) e = rw (reader .line-adds st line, e, reader .refuses st)
+  module _ (last : ℕ) (e : st .count ≡ last + 1) where
+    pub train-adds : (line : List ℕ) → addLine l K.Train st (ended line) ≡ answer (trainLineAnswer l (st .count) (st .total) (trainOf line)) st (trainNew st last (trainOf line))
+    unfolding addLine addTrain withTrain answer
+    train-adds line = go (trainOf line)
+      where
+        go : (r : TrainLine) → trainAdds l st r ≡ answer (trainLineAnswer l (st .count) (st .total) r) st (trainNew st last r)
+        go T.Malformed = refl
+        go (T.Fields t) = let z : st .count - 1 ≡ last = omega arith in rw z
+
+    abbrev pub trainReader : Reader l K.Train st TrainLine
+    trainReader = record { read = trainOf; answers = trainLineAnswer l (st .count) (st .total); new = trainNew st last; adds = train-adds }
+
+-- a first line that is refused is at fault
+read-fault : {l : Limits} {p : Kind} {st : Study} {A : Type 0} (reader : Reader l p st A) (k : ℕ) (ps : List Kind) (xs : List Line) {f : Refusal}
+    → firstAnswer (reader .read) (reader .answers) xs ≡ Refused f → readLines l st k (p ∷ ps) xs ≡ refusedAt f k
+unfolding readLines firstAnswer addLine answer
+read-fault reader k ps [] e = cc
+read-fault reader k ps (torn ∷ xs) e = cc
+read-fault reader k ps (ended line ∷ xs) e = rw (reader .adds line, e)
 
 -- no kind of line is left
 module _ (l : Limits) (st : Study) (text : List ℕ) (at k : ℕ) where
@@ -115,30 +134,23 @@ module _ {l : Limits} {text : List ℕ} {start : ℕ} {counts : List ℕ} {st : 
     unfolding trains
     rest-after h = let e : n - j ≡ 0 = omega arith in rw e at r
 
-  module _ {p : Kind} {A : Type 0} (reader : Reader l p A) {ps : List Kind} (r : Rest l text start counts st at k (p ∷ ps)) where
-    pub rest-fault : firstRead (reader .malformed) (reader .read) (linesOf (drop at text)) ≡ reader .malformed → {f : Refusal} → f ≡ faultOf (linesOf (drop at text))
-        → refusedAt f k ≡ readLines l emptyStudy 2 (kindsOf counts) (linesOf (drop start text))
-    rest-fault e q = rw q (sym (r .whole ∙ read-fault reader st k ps (linesOf (drop at text)) e))
+  module _ {p : Kind} {A : Type 0} (reader : Reader l p st A) {ps : List Kind} (r : Rest l text start counts st at k (p ∷ ps)) where
+    pub rest-refused : {f : Refusal} → firstAnswer (reader .read) (reader .answers) (linesOf (drop at text)) ≡ Refused f → {x : Reading} → x ≡ refusedAt f k
+        → x ≡ readLines l emptyStudy 2 (kindsOf counts) (linesOf (drop start text))
+    rest-refused e q = q ∙ sym (r .whole ∙ read-fault reader k ps (linesOf (drop at text)) e)
 
-    module _ {fields : A} {next : ℕ} (w : Found (reader .read) fields text at next) {a : Added} (e : a ≡ reader .adds st fields) where
-      added : a ≡ addLine l p st (ended (w .line))
-      added = e ∙ rw (w .is) (sym (reader .line-adds st (w .line)))
-
-      pub rest-next : a .check ≡ Accepted → Rest l text start counts (a .study) next (k + 1) ps
-      unfolding readLines
-      rest-next z =
-          record { within = w .within; bound = omega (arith, w .ahead, r .bound); whole = r .whole ∙ rw (w .lines, ← added, z) }
-
-      pub rest-refused : {f : Refusal} → a .check ≡ Refused f → refusedAt f k ≡ readLines l emptyStudy 2 (kindsOf counts) (linesOf (drop start text))
-      unfolding readLines
-      rest-refused z = sym (r .whole ∙ rw (w .lines, ← added, z))
+    pub rest-next : {fields : A} {next : ℕ} → Found (reader .read) (reader .answers) fields text at next
+        → Rest l text start counts (reader .new fields) next (k + 1) ps
+    unfolding readLines answer
+    rest-next w =
+        record { within = w .within; bound = omega (arith, w .ahead, r .bound); whole = r .whole ∙ rw (w .lines, reader .adds (w .line), ← w .is, w .accepted) }
 
   pub rest-over : Rest l text start counts st at k [] → at < length text → refusedAt R.Contents k ≡ readLines l emptyStudy 2 (kindsOf counts) (linesOf (drop start text))
   rest-over r h = sym (r .whole ∙ read-over l st text at k h)
 
   pub rest-done : Rest l text start counts st at k [] → length text ≤ at
-      → acceptedWith st ≡ readLines l emptyStudy 2 (kindsOf counts) (linesOf (drop start text))
-  rest-done r h = sym (r .whole ∙ read-done l st text at k h)
+      → readLines l emptyStudy 2 (kindsOf counts) (linesOf (drop start text)) ≡ acceptedWith st
+  rest-done r h = r .whole ∙ read-done l st text at k h
 
 -- ---- the whole text, on each way
 

@@ -1,22 +1,23 @@
 -- Every text's study is a run of additions: of its lines' additions in order where it is accepted, of none where it is refused. So what holds of every run holds of it.
 -- Assumes nothing.
 use mathlib.Core.Path.{_≡_, refl, sym, ap, _∙_}
-use Prim.Native.Nat.{ℕ, _+_}
+use Prim.Native.Nat.{ℕ, _+_, _≤_}
 use mathlib.Core.List.{List, [], _∷_, _++_}
 use mathlib.Core.Bool.{Bool, true, false, cond}
-use lib.ListN.{length}
+use lib.ListN.{length, drop}
 use lib.Dec.{leb}
 use Rattle.steps.specs.declared.Refusal.{Refusal}
 use Rattle.steps.specs.declared.Refusal.the-variants as R
 use Rattle.steps.specs.declared.Check.{Check}
 use Rattle.steps.specs.declared.Check.the-variants.{Accepted, Refused}
 use Rattle.study.specs.declared.Study.{Study}
-use Rattle.study.specs.Plan.{emptyStudy}
+use Rattle.study.specs.Plan.{planOf, emptyStudy}
 use Rattle.study.specs.Add.{Limits}
-use Rattle.study.specs.Run.{Addition, step, runFrom, run}
+use Rattle.study.specs.Run.{Addition, step, runFrom, run, Roomy, listed}
+use Rattle.study.proofs.Listed.{run-listed}
 use Rattle.text.specs.Lines.{segmentOf, trainOf}
 use Rattle.text.specs.Contents.{Read, refused, counts, contentsOf}
-use Rattle.text.specs.Text.{Line, ended, torn, linesOf, Kind, kindsOf, segmentAdds, trainAdds, addLine, refusedAt, after, readLines, readBody, readFrom, readText}
+use Rattle.text.specs.Text.{Line, ended, torn, linesOf, Kind, kindsOf, segmentAdds, trainAdds, addLine, acceptedWith, refusedAt, after, readLines, readBody, readFrom, readText}
 use Rattle.text.specs.Additions.{segmentAddition, trainAddition, lineAdditions, linesAdditions, bodyAdditions, additionsIn, additionsOf}
 use Rattle.text.specs.Text as K
 use Rattle.text.specs.declared.Reading.{Reading}
@@ -24,7 +25,7 @@ use Rattle.text.specs.declared.lines.SegmentLine.{SegmentLine}
 use Rattle.text.specs.declared.lines.SegmentLine.the-variants as S
 use Rattle.text.specs.declared.lines.TrainLine.{TrainLine}
 use Rattle.text.specs.declared.lines.TrainLine.the-variants as T
-use Rattle.text.proofs.Rest.{never}
+use Rattle.text.proofs.Rest.{never, Rest, rest-done}
 
 -- an accepted line is its addition
 line-runs : (l : Limits) (p : Kind) (st : Study) (x : Line) (rest : List Addition) → addLine l p st x .check ≡ Accepted
@@ -59,6 +60,18 @@ lines-run l st k (p ∷ ps) (x ∷ xs) e =
     ap (λ (r : Reading). r .study) (w .1)
     ∙ lines-run l (a .study) (k + 1) ps xs (sym (ap (λ (r : Reading). r .check) (w .1)) ∙ e)
     ∙ line-runs l p st x (linesAdditions ps xs) (w .0)
+
+-- the study of a reading that has come to its end is a run, so listed and added again it is the same
+pub rest-listed : {l : Limits} → Roomy l → {text : List ℕ} {start : ℕ} {counts : List ℕ} {st : Study} {at k : ℕ} → Rest l text start counts st at k [] → length text ≤ at
+    → {made : Study} → made ≡ run l (listed (planOf st)) → acceptedWith made ≡ readLines l emptyStudy 2 (kindsOf counts) (linesOf (drop start text))
+unfolding run
+rest-listed {l} roomy {text} {start} {counts} {st} r h {made} e =
+    let done = rest-done r h in
+    let xs = linesOf (drop start text) in
+    let held : st ≡ run l (linesAdditions (kindsOf counts) xs) =
+    sym (ap (λ (x : Reading). x .study) done) ∙ lines-run l emptyStudy 2 (kindsOf counts) xs (ap (λ (x : Reading). x .check) done) in
+    let same : made ≡ st = e ∙ rw held (run-listed l roomy (linesAdditions (kindsOf counts) xs)) in
+    rw same (sym done)
 
 body-runs : (l : Limits) (r : Read) (xs : List Line) → readBody l r xs .check ≡ Accepted → readBody l r xs .study ≡ run l (bodyAdditions r xs)
 unfolding run

@@ -12,7 +12,7 @@ use Rattle.steps.specs.declared.Refusal.{Refusal}
 use Rattle.steps.specs.declared.Refusal.the-variants.{Form, Contents}
 use Rattle.steps.specs.declared.Check.{Check}
 use Rattle.steps.specs.declared.Check.the-variants.{Accepted, Refused}
-use Rattle.study.specs.Add.{Limits}
+use Rattle.study.specs.Add.{Limits, ours, segmentAnswer, trainAnswer}
 use Rattle.text.specs.Numbers.{numbersOf}
 use Rattle.text.specs.Contents.{Read, refused, counts, countsIn, inAll}
 use Rattle.text.specs.Lines.{segmentOf, trainOf}
@@ -22,7 +22,9 @@ use Rattle.text.specs.declared.contents.Natural.the-variants as L
 use Rattle.text.specs.declared.contents.Count.{Count}
 use Rattle.text.specs.declared.contents.Count.the-variants as C
 use Rattle.text.specs.declared.contents.Contents as contents
+use Rattle.text.specs.declared.lines.SegmentLine.{SegmentLine}
 use Rattle.text.specs.declared.lines.SegmentLine.the-variants as S
+use Rattle.text.specs.declared.lines.TrainLine.{TrainLine}
 use Rattle.text.specs.declared.lines.TrainLine.the-variants as T
 use Rattle.text.specs.declared.SegmentStep.{SegmentStep}
 use Rattle.text.specs.declared.SegmentStep.the-variants as SS
@@ -61,29 +63,39 @@ pub record ContentsRead (x : Read) (r : contents.Contents) : Type 0 where
 
 -- ---- the line at a position of the text
 
--- a line stands at a position, of which the fields were read; the next line starts after it
-pub record Found {A : Type 0} (read : List ℕ → A) (fields : A) (text : List ℕ) (at next : ℕ) : Type 0 where
+-- what a line's fields answer, after so many segments and entries
+abbrev pub segmentLineAnswer : Limits → ℕ → SegmentLine → Check
+segmentLineAnswer l count S.Malformed = Refused Form
+segmentLineAnswer l count (S.Fields s) = segmentAnswer l count s
+
+abbrev pub trainLineAnswer : Limits → ℕ → ℕ → TrainLine → Check
+trainLineAnswer l count total T.Malformed = Refused Form
+trainLineAnswer l count total (T.Fields t) = trainAnswer l count total t
+
+-- a line stands at a position, of which the fields were read and are accepted; the next line starts after it
+pub record Found {A : Type 0} (read : List ℕ → A) (answers : A → Check) (fields : A) (text : List ℕ) (at next : ℕ) : Type 0 where
   pub line : List ℕ
   pub is : fields ≡ read line
+  pub accepted : answers fields ≡ Accepted
   pub ahead : at < next
   pub within : next ≤ length text
   pub lines : linesOf (drop at text) ≡ ended line ∷ linesOf (drop next text)
 
--- what is read of the first line; where there is none, or no line feed ends it, as of a malformed one
-unfoldable pub firstRead : {A : Type 0} → A → (List ℕ → A) → List Line → A
-firstRead malformed read [] = malformed
-firstRead malformed read (torn ∷ xs) = malformed
-firstRead malformed read (ended line ∷ xs) = read line
+-- what the first line answers: there is none, no line feed ends it, or its fields answer
+unfoldable pub firstAnswer : {A : Type 0} → (List ℕ → A) → (A → Check) → List Line → Check
+firstAnswer read answers [] = Refused Contents
+firstAnswer read answers (torn ∷ xs) = Refused Form
+firstAnswer read answers (ended line ∷ xs) = answers (read line)
 
-abbrev pub SegmentAt : List ℕ → ℕ → SegmentStep → Type 0
-SegmentAt text at (SS.Fields s next) = Found segmentOf (S.Fields s) text at next
-SegmentAt text at SS.Malformed = firstRead S.Malformed segmentOf (linesOf (drop at text)) ≡ S.Malformed
+abbrev pub SegmentAt : ℕ → List ℕ → ℕ → SegmentStep → Type 0
+SegmentAt count text at (SS.Taken s next) = Found segmentOf (segmentLineAnswer ours count) (S.Fields s) text at next
+SegmentAt count text at (SS.Refused r) = firstAnswer segmentOf (segmentLineAnswer ours count) (linesOf (drop at text)) ≡ Refused r
 
-abbrev pub TrainAt : List ℕ → ℕ → TrainStep → Type 0
-TrainAt text at (TS.Fields t next) = Found trainOf (T.Fields t) text at next
-TrainAt text at TS.Malformed = firstRead T.Malformed trainOf (linesOf (drop at text)) ≡ T.Malformed
+abbrev pub TrainAt : ℕ → ℕ → List ℕ → ℕ → TrainStep → Type 0
+TrainAt count total text at (TS.Taken t next) = Found trainOf (trainLineAnswer ours count total) (T.Fields t) text at next
+TrainAt count total text at (TS.Refused r) = firstAnswer trainOf (trainLineAnswer ours count total) (linesOf (drop at text)) ≡ Refused r
 
--- why nothing could be read of the first line
+-- why no line could be read: there is none, or no line feed ends it
 abbrev pub faultOf : List Line → Refusal
 faultOf [] = Contents
 faultOf (x ∷ xs) = Form

@@ -9,6 +9,8 @@ use crate::numbers::Number;
 use crate::numbers::number_at;
 use steps::Check;
 use steps::Refusal;
+use study::MOST_ENTRIES;
+use study::MOST_SEGMENTS;
 
 enum Natural {
     Value(usize),
@@ -24,7 +26,7 @@ enum Count {
 pub(crate) struct Contents {
     pub(crate) check: Check,
     pub(crate) count: usize,
-    pub(crate) list: [usize; 24],
+    pub(crate) list: [usize; MOST_SEGMENTS],
 }
 
 fn to_natural(v: i32) -> Natural
@@ -59,7 +61,7 @@ fn turned_back(refusal: Refusal) -> Contents
     Contents {
         check: Check::Refused(refusal),
         count: 0,
-        list: [0usize; 24],
+        list: [0usize; MOST_SEGMENTS],
     }
 }
 
@@ -68,7 +70,7 @@ fn counts_from(line: &[u8], start: usize, n: usize) -> Contents
     requires { ⌜ (n ≤ 24) × (countOf (numbersFrom (now line) start) ≡ Count.Numbers n) ⌝ }
     ensures { λ r. ⌜ ContentsRead (countsFrom ours (numbersFrom (now (line .entry)) start)) r ⌝ }
 {
-    let mut list = [0usize; 24];
+    let mut list = [0usize; MOST_SEGMENTS];
     let mut sum = 0;
     let mut at = start;
     let mut i = 0;
@@ -79,7 +81,7 @@ fn counts_from(line: &[u8], start: usize, n: usize) -> Contents
         let Natural::Value(c) = to_natural(v) else {
             return turned_back(Refusal::Contents);
         };
-        if 96 < c {
+        if MOST_ENTRIES < c {
             return turned_back(Refusal::Contents);
         }
         list[i] = c;
@@ -90,7 +92,7 @@ fn counts_from(line: &[u8], start: usize, n: usize) -> Contents
     if sum == 0 {
         return turned_back(Refusal::Contents);
     }
-    if 96 < sum {
+    if MOST_ENTRIES < sum {
         return turned_back(Refusal::Contents);
     }
     Contents {
@@ -119,7 +121,7 @@ pub(crate) fn contents_of(line: &[u8]) -> Contents
     if n == 0 {
         return turned_back(Refusal::Contents);
     }
-    if 24 < n {
+    if MOST_SEGMENTS < n {
         return turned_back(Refusal::Contents);
     }
     counts_from(line, next, n)

@@ -20,10 +20,19 @@ use steps::Check;
 use steps::Refusal;
 use steps::Segment;
 use steps::Train;
+use study::Entry;
+use study::MOST_ENTRIES;
+use study::MOST_SEGMENTS;
 use study::Study;
-use study::add_segment;
-use study::add_train;
 use study::empty;
+use study::no_entry;
+use study::no_segment;
+use study::segment_answer;
+use study::study_of;
+use study::train_answer;
+
+// How many bytes a text may have.
+const MOST_BYTES: usize = 16384;
 
 // What a text gives: accepted at line 0 with its study, or the refusal, the line at fault and the empty study.
 pub struct Reading {
@@ -32,16 +41,16 @@ pub struct Reading {
     pub study: Study,
 }
 
-// The fields of a segment's line and where the next line starts.
+// What a segment's line answers: the segment that it adds and where the next line starts, or why it is refused.
 enum SegmentStep {
-    Fields(Segment, usize),
-    Malformed,
+    Taken(Segment, usize),
+    Refused(Refusal),
 }
 
-// The fields of a train line and where the next line starts.
+// What a train line answers: the train that it adds and where the next line starts, or why it is refused.
 enum TrainStep {
-    Fields(Train, usize),
-    Malformed,
+    Taken(Train, usize),
+    Refused(Refusal),
 }
 
 // The position of the first `sep` of `s` from `at` on, or the length where there is none.
@@ -69,39 +78,7 @@ pub fn line_at(text: &[u8], at: usize) -> &[u8]
     &text[at..end]
 }
 
-// The segment's line at a position of the text.
-fn segment_at(text: &[u8], at: usize) -> SegmentStep
-    requires { ⌜ at ≤ length (now text) ⌝ }
-    ensures { λ r. ⌜ SegmentAt (now (text .entry)) at r ⌝ }
-{
-    let line = line_at(text, at);
-    let end = at + line.len();
-    if text.len() <= end {
-        return SegmentStep::Malformed;
-    }
-    let SegmentLine::Fields(segment) = segment_of(line) else {
-        return SegmentStep::Malformed;
-    };
-    SegmentStep::Fields(segment, end + 1)
-}
-
-// The train line at a position of the text.
-fn train_at(text: &[u8], at: usize) -> TrainStep
-    requires { ⌜ at ≤ length (now text) ⌝ }
-    ensures { λ r. ⌜ TrainAt (now (text .entry)) at r ⌝ }
-{
-    let line = line_at(text, at);
-    let end = at + line.len();
-    if text.len() <= end {
-        return TrainStep::Malformed;
-    }
-    let TrainLine::Fields(train) = train_of(line) else {
-        return TrainStep::Malformed;
-    };
-    TrainStep::Fields(train, end + 1)
-}
-
-// Why nothing could be read at a position: there is no line, or it is malformed.
+// Why no line could be read at a position: there is none, or no line feed ends it.
 fn fault_at(text: &[u8], at: usize) -> Refusal
     ensures { λ r. ⌜ r ≡ faultOf (linesOf (drop at (now (text .entry)))) ⌝ }
 {
@@ -109,6 +86,44 @@ fn fault_at(text: &[u8], at: usize) -> Refusal
         return Refusal::Contents;
     }
     Refusal::Form
+}
+
+// The segment's line at a position of the text, after so many segments.
+fn segment_at(text: &[u8], at: usize, count: usize) -> SegmentStep
+    requires { ⌜ at ≤ length (now text) ⌝ }
+    ensures { λ r. ⌜ SegmentAt count (now (text .entry)) at r ⌝ }
+{
+    let line = line_at(text, at);
+    let end = at + line.len();
+    if text.len() <= end {
+        return SegmentStep::Refused(fault_at(text, at));
+    }
+    let SegmentLine::Fields(segment) = segment_of(line) else {
+        return SegmentStep::Refused(Refusal::Form);
+    };
+    match segment_answer(count, segment) {
+        Check::Accepted => SegmentStep::Taken(segment, end + 1),
+        Check::Refused(refusal) => SegmentStep::Refused(refusal),
+    }
+}
+
+// The train line at a position of the text, after so many segments and entries.
+fn train_at(text: &[u8], at: usize, count: usize, total: usize) -> TrainStep
+    requires { ⌜ at ≤ length (now text) ⌝ }
+    ensures { λ r. ⌜ TrainAt count total (now (text .entry)) at r ⌝ }
+{
+    let line = line_at(text, at);
+    let end = at + line.len();
+    if text.len() <= end {
+        return TrainStep::Refused(fault_at(text, at));
+    }
+    let TrainLine::Fields(train) = train_of(line) else {
+        return TrainStep::Refused(Refusal::Form);
+    };
+    match train_answer(count, total, train) {
+        Check::Accepted => TrainStep::Taken(train, end + 1),
+        Check::Refused(refusal) => TrainStep::Refused(refusal),
+    }
 }
 
 // A text that was read to its end.
@@ -133,12 +148,14 @@ fn refused(refusal: Refusal, line: usize) -> Reading
     }
 }
 
-// The lines after the contents: each segment's line, and its train lines after it.
+// The lines after the contents: each segment's line, and its train lines after it. What they add is gathered in place, and the study is made once.
 fn read_lines(text: &[u8], start: usize, counts: &[usize]) -> Reading
     requires { ⌜ start ≤ length (now text) ⌝ }
     ensures { λ r. ⌜ r ≡ readLines ours emptyStudy 2 (kindsOf (now (counts .entry))) (linesOf (drop start (now (text .entry)))) ⌝ }
 {
-    let mut study = empty();
+    let mut segments = [no_segment(); MOST_SEGMENTS];
+    let mut entries = [no_entry(); MOST_ENTRIES];
+    let mut total = 0;
     let mut at = start;
     let mut line = 2;
     let mut s = 0;
@@ -147,34 +164,26 @@ fn read_lines(text: &[u8], start: usize, counts: &[usize]) -> Reading
             if at < text.len() {
                 break 'reading refused(Refusal::Contents, line);
             }
-            break 'reading accepted(study);
+            break 'reading accepted(study_of(segments, s, entries, total));
         }
-        let SegmentStep::Fields(segment, next) = segment_at(text, at) else {
-            break 'reading refused(fault_at(text, at), line);
-        };
-        let added = add_segment(study, segment);
-        let check = added.check;
-        if let Check::Refused(refusal) = check {
-            break 'reading refused(refusal, line);
-        }
-        study = added.study;
-        at = next;
-        line += 1;
-        let count = counts[s];
-        let mut j = 0;
-        while j < count {
-            let TrainStep::Fields(train, next) = train_at(text, at) else {
-                break 'reading refused(fault_at(text, at), line);
-            };
-            let added = add_train(study, train);
-            let check = added.check;
-            if let Check::Refused(refusal) = check {
-                break 'reading refused(refusal, line);
+        match segment_at(text, at, s) {
+            SegmentStep::Refused(refusal) => break 'reading refused(refusal, line),
+            SegmentStep::Taken(segment, next) => {
+                segments[s] = segment;
+                at = next;
             }
-            study = added.study;
-            at = next;
+        }
+        line += 1;
+        for _ in 0..counts[s] {
+            match train_at(text, at, s + 1, total) {
+                TrainStep::Refused(refusal) => break 'reading refused(refusal, line),
+                TrainStep::Taken(train, next) => {
+                    entries[total] = Entry { segment: s, train };
+                    at = next;
+                }
+            }
+            total += 1;
             line += 1;
-            j += 1;
         }
         s += 1;
     }
@@ -184,7 +193,7 @@ fn read_lines(text: &[u8], start: usize, counts: &[usize]) -> Reading
 pub fn read_text(text: &[u8]) -> Reading
     ensures { λ r. ⌜ r ≡ readText ours (now (text .entry)) ⌝ }
 {
-    if 16384 < text.len() {
+    if MOST_BYTES < text.len() {
         return refused(Refusal::Form, 0);
     }
     if text.len() == 0 {

@@ -37,7 +37,7 @@ abbrev μ-loop : tie.MeasureT-loop
 loop-holds : tie.Need-loop-holds Inv-loop2 μ-loop2 Inv-loop μ-loop
 loop-holds c = (
   omega arith,
-  counted _ _ _ (omega arith) (omega arith) (⊎-elim (λ w. omega arith) (λ w. omega arith) (c .before .before .if1 .came)) (⊎-elim (λ w. omega arith) (λ w. omega arith) (c .before .if2 .came)),
+  counted _ _ _ (omega arith) (omega arith) (c .before .before .at-most .ensures) (c .before .at-most2 .ensures),
   at-first _ (c .empty .ensures),
 )
 
@@ -82,7 +82,7 @@ loop2-again c =
     let same = plan-entry st (v .i) h in (
       omega arith,
       ⊎-elim (λ w. train-accepted (planOf st) h (v .inv .1) same (w .0 .taken) (w .2 .ensures) (w .4 .given .1) (w .5))
-          (⊎-elim (λ w. train-refused (planOf st) h (v .inv .1) same (w .0 .taken) (w .2 .ensures) (w .4 .given .1) (w .5)) (λ w. entry-passed (planOf st) h (v .inv .1) same (w .0 .left) (w .1))) (c .if3 .came),
+          (⊎-elim (λ w. train-refused (planOf st) h (v .inv .1) same (w .0 .taken) (w .2 .ensures) (w .4 .given .1) (w .5)) (λ w. entry-passed (planOf st) h (v .inv .1) same (w .0 .left) (w .1))) (c .if1 .came),
     )
 
 loop-again : tie.Need-loop-again Inv-loop2 μ-loop2 Inv-loop μ-loop
@@ -98,6 +98,8 @@ study-of-spec =
     μ-loop2
     Inv-loop
     μ-loop
+    (λ c κs. tt)
+    (λ c κs. tt)
     (λ c κs. tt)
     loop-holds
     (λ c. omega arith)
