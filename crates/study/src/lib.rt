@@ -176,8 +176,7 @@ pub fn study_of(
     while k < places {
         let segment = segments[k];
         let place = study.count;
-        let check = segment_answer(place, segment);
-        if let Check::Accepted = check {
+        if let Check::Accepted = segment_answer(place, segment) {
             study.segments[place] = segment;
             study.count = place + 1;
         }
@@ -188,8 +187,7 @@ pub fn study_of(
                 let held = study.count;
                 let row = study.total;
                 let train = entry.train;
-                let answer = train_answer(held, row, train);
-                if let Check::Accepted = answer {
+                if let Check::Accepted = train_answer(held, row, train) {
                     study.entries[row] = Entry {
                         segment: held - 1,
                         train: train,

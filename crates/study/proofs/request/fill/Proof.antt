@@ -99,23 +99,6 @@ pub fill-spec : {M : Type 1} → statement M
 fill-spec =
     tie.close
     (tie.spec
-    Inv-loop
-    μ-loop
-    (λ c κs. search needs)
-    loop-holds
-    mul-entry
-    element-copy-out-entry
-    (λ c κs. search needs)
-    (λ c κs. search needs)
-    cell-of-requires
-    mul-cells
-    slice-set-from-cells
-    cell-of-requires-2
-    add-t15
-    mul-t21
-    slice-set-from-cells-2
-    add-at
-    loop-less
-    loop-again
-    same-length
-    returns)
+    Inv-loop μ-loop (λ c κs. search needs) loop-holds mul-entry element-copy-out-entry (λ c κs. search needs)
+    (λ c κs. search needs) cell-of-requires mul-cells slice-set-from-cells cell-of-requires-2 add-t15 mul-t21
+    slice-set-from-cells-2 add-at loop-less loop-again same-length returns)

@@ -69,17 +69,5 @@ pub heard-segments-spec : {M : Type 1} → statement M
 heard-segments-spec =
     tie.close
     (tie.spec
-    Inv-loop
-    μ-loop
-    (λ c κs. search needs)
-    loop-holds
-    mul-entry
-    element-copy-out-entry
-    slice-aggregate-mark
-    mul-mark
-    shared-slice-copy-out-mark
-    (λ c κs. search needs)
-    add-i
-    loop-less
-    loop-again
-    returns)
+    Inv-loop μ-loop (λ c κs. search needs) loop-holds mul-entry element-copy-out-entry slice-aggregate-mark mul-mark
+    shared-slice-copy-out-mark (λ c κs. search needs) add-i loop-less loop-again returns)

@@ -64,16 +64,5 @@ pub propagations-of-spec : {M : Type 1} → statement M
 propagations-of-spec =
     tie.close
     (tie.spec
-    Inv-loop
-    μ-loop
-    (λ c κs. search needs)
-    loop-holds
-    mul-segment
-    element-copy-out-segment
-    (λ c κs. search needs)
-    mul-found
-    array-set-from-found
-    add-k
-    loop-less
-    loop-again
-    returns)
+    Inv-loop μ-loop (λ c κs. search needs) loop-holds mul-segment element-copy-out-segment (λ c κs. search needs)
+    mul-found array-set-from-found add-k loop-less loop-again returns)
