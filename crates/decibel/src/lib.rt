@@ -41,7 +41,7 @@ pub fn clamp(n: u64, low: u64, high: u64) -> u64
     n
 }
 
-// The place of the last entry of t that is at most n, where the first is and the last is not. Of any other list, some place in it.
+// The place of the last entry of t that is at most n, where the first is and the last is not. Of any other list some place in it, or 0.
 pub fn rank(t: &[u64], n: u64) -> usize
     ensures { λ r. ⌜ Ranked (now (t .entry)) n r ⌝ }
 {

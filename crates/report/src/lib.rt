@@ -25,7 +25,7 @@ fn put(out: &mut [u8], at: usize, bytes: &[u8]) -> usize
     at + i
 }
 
-// The digits before the last, where there are any, then the last.
+// A number in decimal.
 fn put_decimal(out: &mut [u8], at: usize, n: u64) -> usize
     requires { ⌜ at + length (decimal n) ≤ length (now out) ⌝ }
     ensures { λ r. ⌜ Put (now (out .entry)) at (decimal n) (now (out .exit)) r ⌝ }

@@ -131,7 +131,8 @@ fn range_check(s: Segment) -> Check
     )
 }
 
-// Lines 6 and 7, where the first five are kept: the path difference is taken of figures in their ranges only.
+// The first line that a segment does not keep. Lines 6 and 7 are judged only where 1 to 5 are kept, so that the path difference is
+// taken of figures in their ranges.
 pub fn segment_check(s: Segment) -> Check
     ensures { λ r. ⌜ r ≡ segmentCheck s ⌝ }
 {
@@ -155,6 +156,7 @@ fn trains_kept(t: Train) -> bool
     in_range(0, 2000, t.day) & in_range(0, 2000, t.night)
 }
 
+// The first line that a train entry does not keep.
 pub fn train_check(t: Train) -> Check
     ensures { λ r. ⌜ r ≡ trainCheck t ⌝ }
 {

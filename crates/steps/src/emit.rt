@@ -103,7 +103,7 @@ pub(crate) fn trains_in(train: Train, period: Period) -> u64
     }
 }
 
-// What a period's hours take off.
+// What a period's hours take off, in tenths.
 fn hours(period: Period) -> i32
     ensures { λ r. ⌜ r ≡ pos (hoursTenths period) ⌝ }
 {
@@ -131,6 +131,7 @@ fn period_level(t: &[u64], train: Train, period: Period, base: i32) -> Level
     Level::Figure(plus(base, trains_step(t, train, period)))
 }
 
+// A train's figure in each period: silent where it does not run, or is refused.
 pub fn emissions_of(t: &[u64], train: Train) -> Emissions
     ensures { λ r. ⌜ Emits (now (t .entry)) (emissionOf Day train) (r .day) × Emits (now (t .entry)) (emissionOf Night train) (r .night) ⌝ }
 {

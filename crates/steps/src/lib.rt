@@ -55,6 +55,7 @@ pub struct Train {
     pub night: i32,
 }
 
+// Day is 0600 to midnight, night is midnight to 0600.
 pub enum Period {
     Day,
     Night,
@@ -62,26 +63,39 @@ pub enum Period {
 
 // Why something is turned back, in the order of document 01's numbers.
 pub enum Refusal {
+    // 1: distance
     Distance,
+    // 2: window height or mean height of propagation
     Height,
+    // 3: share of soft ground
     Ground,
+    // 4: angle of view or the doubled angle
     Angle,
+    // 5: screen, its place, its top, Chart 6(c), or ballast with a screen
     Screen,
+    // 6: in shadow, path difference above 2.5 m
     Shadow,
+    // 7: Table 1, ballast, facade or opposite angle
     Reading,
+    // 8 to 11: vehicle row, speed, vehicles, trains
     Row,
     Speed,
     Vehicles,
     Trains,
+    // 12: a text out of form
     Form,
+    // 13: contents out of range, a line missing or extra
     Contents,
+    // 20 to 22: a train before any segment, too many segments, too many entries
     NoSegment,
     SegmentLimit,
     EntryLimit,
+    // 23 and 24: levels asked without an entry, or with too few working cells
     NoEntry,
     FewCells,
 }
 
+// Accepted, or why not.
 pub enum Check {
     Accepted,
     Refused(Refusal),

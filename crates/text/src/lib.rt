@@ -53,7 +53,7 @@ enum TrainStep {
     Refused(Refusal),
 }
 
-// The position of the first `sep` of `s` from `at` on, or the length where there is none.
+// The position of the first `sep` of `s` from `at` on; where there is none the length, or `at` itself past it.
 fn find(s: &[u8], at: usize, sep: u8) -> usize
     ensures { λ r. ⌜ r ≡ at + length (until sep (drop at (now (s .entry)))) ⌝ }
 {
