@@ -14,16 +14,16 @@ use Rattle.decibel.specs.Ints.{up, dn}
 use Rattle.decibel.specs.Greatest.{clamp}
 use Rattle.decibel.specs.Fine.{fineLog, fineLogAt}
 use Rattle.decibel.specs.Log.{AtLeast, AtMost}
-use Rattle.decibel.specs.Round.{tie, nearest, byMark, MarkAllowed}
+use Rattle.decibel.specs.Round.{tie, nearest, byMark, IsFence, MarkAllowed}
 use Rattle.decibel.proofs.Ints.{add-is, neg-is, ints}
 use Rattle.decibel.proofs.Greatest.{clamp-same, clamp-within}
-use Rattle.decibel.proofs.Round.{tie-is, nearest-is, unmarked-nearest, marked-louder}
-use Rattle.decibel.proofs.Exact.{fence-is}
+use Rattle.decibel.proofs.Round.{tie-is, nearest-is, unmarked-nearest, marked-louder, mark-settles}
+use Rattle.decibel.proofs.Exact.{fence-is, log-ordered}
 use Rattle.decibel.proofs.Attenuation.{scaledLog, negative-low, negative-high, negative-above}
 use Rattle.steps.specs.declared.Segment.{Segment}
 use Rattle.steps.specs.Rules.{unscreened}
-use Rattle.steps.specs.Step.{groundFactor, grounded, groundFence}
-use Rattle.steps.specs.Ground.{GroundMarkBy, GroundMark, attenuation, groundMark}
+use Rattle.steps.specs.Step.{groundFactor, grounded, groundFence, screenFence, pathFence}
+use Rattle.steps.specs.Ground.{GroundMarkBy, GroundMark, GroundSettledBy, GroundSettled, attenuation, groundMark}
 use Rattle.steps.specs.Parts.{Ranges}
 
 -- the mark of an attenuation of a microdecibels
@@ -147,6 +147,31 @@ ground-mark-allowed s g = go (grounded s) refl
     go : (b : Bool) → grounded s ≡ b → GroundMarkBy b s (cond b (isClose (attenuation s)) false)
     go true e = far-mark-allowed g (grounded-far s e)
     go false e = refl
+
+-- where ground counts, it is the step
+pub ground-path : (s : Segment) → grounded s ≡ true → pathFence s ≡ groundFence s
+unfolding pathFence grounded
+ground-path s e = go (unscreened s) e
+  where
+    go : (b : Bool) → cond b (ltb 2500 (up (s .distance))) false ≡ true → cond b (cond (cond b (ltb 2500 (up (s .distance))) false) (groundFence s) (pos 0)) (screenFence s) ≡ groundFence s
+    go true e = rw e refl
+    go false e = let z : _≡_ {A = ℕ} 0 1 = cc in let x : ⊥ = omega arith in absurd x
+
+-- its fence is that of its exact value
+pub ground-fence : (s : Segment) → grounded s ≡ true → IsFence (AtLeast 0 (groundFactor s) 2500 (up (s .distance))) (pathFence s)
+unfolding groundFence
+ground-fence s e = rw (ground-path s e) (fence-is 0 (groundFactor s) 2500 (up (s .distance)) (lit< tt) (omega (arith, grounded-far s e)))
+
+-- Every allowed mark gives the louder neighbour where it is set, and the nearest tenth where not.
+pub ground-settled : (s : Segment) (mark : Bool) → GroundMark s mark → GroundSettled s mark (byMark mark (pathFence s))
+unfolding GroundMark GroundMarkBy GroundSettled GroundSettledBy
+ground-settled s mark allowed = go (grounded s) refl allowed
+  where
+    go : (b : Bool) → grounded s ≡ b → GroundMarkBy b s mark → GroundSettledBy b s mark (byMark mark (pathFence s))
+    go true e a =
+        mark-settles (AtLeast 0 (groundFactor s) 2500 (up (s .distance))) (AtMost 0 (groundFactor s) 2500 (up (s .distance))) (log-ordered 0 (groundFactor s) 2500 (up (s .distance)))
+        (pathFence s) (ground-fence s e) mark a
+    go false e a = (a, rw a (unmarked-nearest (pathFence s)))
 
 -- Ground that is not soft is never marked.
 pub no-factor-unmarked : (s : Segment) → groundFactor s ≡ 0 → groundMark s ≡ false

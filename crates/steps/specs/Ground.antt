@@ -4,14 +4,15 @@ use mathlib.Core.Path.{_≡_}
 use mathlib.Core.Bool.{Bool, true, false, cond, _&&_}
 use Prim.Native.Nat.{ℕ, _*_, _-_, _/_, _%_}
 use lib.Dec.{leb}
+use lib.IntN.{ℤ}
 use Rattle.decibel.specs.Ints.{up}
 use Rattle.decibel.specs.Fine.{fineLogAt}
 use Rattle.decibel.specs.Log.{AtLeast, AtMost}
-use Rattle.decibel.specs.Round.{MarkAllowed}
+use Rattle.decibel.specs.Round.{nearest, MarkAllowed, Settled}
 use Rattle.steps.specs.declared.Segment.{Segment}
 use Rattle.steps.specs.Refusal.{isAccepted}
 use Rattle.steps.specs.Rules.{segmentCheck}
-use Rattle.steps.specs.Step.{groundFactor, grounded}
+use Rattle.steps.specs.Step.{groundFactor, grounded, pathFence}
 
 -- on the exact value of the ground step; a segment where ground does not count is never marked
 unfoldable pub GroundMarkBy : Bool → Segment → Bool → Type 0
@@ -20,6 +21,15 @@ GroundMarkBy false s mark = mark ≡ false
 
 unfoldable pub GroundMark : Segment → Bool → Type 0
 GroundMark s mark = GroundMarkBy (grounded s) s mark
+
+-- what a mark gives of the step, r tenths: where ground counts, the louder neighbour or the nearest of its exact value; else there is no mark, and it is the nearest.
+-- Every allowed mark gives it: `ground-settled` of proofs/Marks.antt
+unfoldable pub GroundSettledBy : Bool → Segment → Bool → ℤ → Type 0
+GroundSettledBy true s mark r = Settled (AtLeast 0 (groundFactor s) 2500 (up (s .distance))) (AtMost 0 (groundFactor s) 2500 (up (s .distance))) mark r
+GroundSettledBy false s mark r = (mark ≡ false) × (r ≡ nearest (pathFence s))
+
+unfoldable pub GroundSettled : Segment → Bool → ℤ → Type 0
+GroundSettled s mark r = GroundSettledBy (grounded s) s mark r
 
 -- the attenuation in microdecibels by the program's own logarithm: at most 151 too high, less than 2 too low
 unfoldable pub attenuation : Segment → ℕ
