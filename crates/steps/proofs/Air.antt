@@ -1,4 +1,4 @@
--- Air and opposite facades as 01 words them, and that their fences and tenths are those of the exact values.
+-- Air and opposite facades: their fences and tenths are those of the exact values.
 -- Assumes nothing.
 use mathlib.Core.Path.{_≡_, refl, sym, subst}
 use mathlib.Core.Bool.{Bool, true, false, cond}
@@ -18,6 +18,7 @@ use Rattle.decibel.proofs.Round.{nearest-exact}
 use Rattle.steps.specs.declared.Segment.{Segment}
 use Rattle.steps.specs.Geometry.{squared, slantSquare}
 use Rattle.steps.specs.Step.{rootUp, airFence, oppositeFence}
+use Rattle.steps.specs.Fences.{AirAtLeast, OppositeAtLeast}
 use Rattle.steps.proofs.Lengths.{squared-is}
 
 -- ---- the root rounded up is the least number whose square is at least n
@@ -52,11 +53,7 @@ root-up-square k = le-antisymm (root-up-least (k * k) k (le-refl (k * k))) (go (
     go (yes h) = h
     go (no h) = let l : suc (rootUp (k * k)) ≤ k = lt-of-not-le h in let x : ⊥ = omega (arith, mul-le-mul l l, root-up-enough (k * k)) in absurd x
 
--- ---- air: 0.2 - 0.008 d' is at least m microdecibels where m is at most 200,000 and (200,000 - m)² at least 6400 (d² + h²)
-
-pub record AirAtLeast (s : Segment) (m : ℤ) : Type 0 where
-  pub under : m ≤ℤ pos 200000
-  pub square : 6400 * slantSquare s ≤ squared (pos 200000 -ℤ m)
+-- ---- air
 
 -- the square is that of 200,000 - m as a natural number
 gap : (m : ℤ) → m ≤ℤ pos 200000 → (k : ℕ) → up m + k ≡ 200000 + dn m → squared (pos 200000 -ℤ m) ≡ k * k
@@ -101,10 +98,7 @@ air-fence-largest s =
 pub air-tenth-nearest : (s : Segment) → IsNearest (AirAtLeast s) (nearest (airFence s))
 air-tenth-nearest s = nearest-exact (AirAtLeast s) (air-falls s) (airFence s) (air-fence-largest s)
 
--- ---- opposite facades: 1.5 θ' / θ is at least m microdecibels where θ m is at most 1,500,000 θ'
-
-unfoldable pub OppositeAtLeast : Segment → ℤ → Type 0
-OppositeAtLeast s m = (pos (up (s .view)) *ℤ m) ≤ℤ pos (1500000 * up (s .opposite))
+-- ---- opposite facades
 
 opposite-falls : (s : Segment) (m n : ℤ) → m ≤ℤ n → OppositeAtLeast s n → OppositeAtLeast s m
 unfolding OppositeAtLeast

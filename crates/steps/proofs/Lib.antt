@@ -14,6 +14,7 @@ pub mod Readings
 pub mod Ranged
 pub mod Steps
 pub mod Marks
+pub mod Fences
 pub mod Path
 pub mod Sums
 pub mod Explained

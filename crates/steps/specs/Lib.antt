@@ -4,6 +4,7 @@ pub mod Rules
 pub mod Step
 pub mod Ground
 pub mod Entry
+pub mod Fences
 pub mod Parts
 pub mod Path
 pub mod Readings
