@@ -61,3 +61,10 @@ levels-accurate l roomy additions p trains before after r enough a = demand-3 l 
 -- Our own limits, so that no premise on sizes is left.
 pub ours-roomy : Roomy ours
 ours-roomy = record { segments = le-refl 24; entries = le-refl 96 }
+
+-- Document 01's demand 3, at its own limits of 24 segments and 96 entries, with nothing assumed of sizes.
+pub demand-3-ours : (additions : List Addition) (p : Period) → hasTrains p (accepted ours additions .entries) ≡ true →
+    (m : Marks) (before after : List ℤ) (r : Answer) → cellsNeeded (length (accepted ours additions .entries)) ≤ length before →
+    AnsweredBy (planOf (run ours additions)) m before after r →
+    (r .check ≡ Accepted) × AccurateToBare p (accepted ours additions) (resultIn p r)
+demand-3-ours = demand-3 ours ours-roomy

@@ -62,7 +62,7 @@ segmentsIn [] = 0
 segmentsIn (K.Segment ∷ ps) = suc (segmentsIn ps)
 segmentsIn (K.Train ∷ ps) = segmentsIn ps
 
-abbrev trainsIn : List Kind → ℕ
+abbrev pub trainsIn : List Kind → ℕ
 trainsIn [] = 0
 trainsIn (K.Segment ∷ ps) = trainsIn ps
 trainsIn (K.Train ∷ ps) = suc (trainsIn ps)
@@ -161,7 +161,7 @@ unfolding kindsOf
 kinds-segments [] = refl
 kinds-segments (c ∷ cs) = ap suc (trains-segments c (kindsOf cs) ∙ kinds-segments cs)
 
-kinds-trains : (cs : List ℕ) → trainsIn (kindsOf cs) ≡ sumOf cs
+pub kinds-trains : (cs : List ℕ) → trainsIn (kindsOf cs) ≡ sumOf cs
 unfolding kindsOf sumOf
 kinds-trains [] = refl
 kinds-trains (c ∷ cs) = trains-trains c (kindsOf cs) ∙ ap (λ (n : ℕ). c + n) (kinds-trains cs)

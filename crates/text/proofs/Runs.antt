@@ -44,7 +44,7 @@ line-runs l K.Train st (ended line) rest e = go (trainOf line) e
     go (T.Fields t) f = refl
 
 -- what comes after an accepted line
-after-accepted : (c : Check) (k : ℕ) (rest : Reading) → after c k rest .check ≡ Accepted → (c ≡ Accepted) × (after c k rest ≡ rest)
+pub after-accepted : (c : Check) (k : ℕ) (rest : Reading) → after c k rest .check ≡ Accepted → (c ≡ Accepted) × (after c k rest ≡ rest)
 after-accepted Accepted k rest e = (refl, refl)
 after-accepted (Refused r) k rest e = never e
 
@@ -91,6 +91,34 @@ accepted-text-is-run l text e = go (leb (length text) 16384) e
     go : (t : Bool) → cond t (readFrom l (linesOf text)) (refusedAt R.Form 0) .check ≡ Accepted
         → cond t (readFrom l (linesOf text)) (refusedAt R.Form 0) .study ≡ run l (additionsIn l (linesOf text))
     go true f = from-runs l (linesOf text) f
+    go false f = never f
+
+-- an accepted text's line is 0
+lines-line : (l : Limits) (st : Study) (k : ℕ) (ps : List Kind) (xs : List Line) → readLines l st k ps xs .check ≡ Accepted → readLines l st k ps xs .line ≡ 0
+unfolding readLines
+lines-line l st k [] [] e = refl
+lines-line l st k [] (x ∷ xs) e = never e
+lines-line l st k (p ∷ ps) [] e = never e
+lines-line l st k (p ∷ ps) (x ∷ xs) e =
+    let a = addLine l p st x in
+    let w = after-accepted (a .check) k (readLines l (a .study) (k + 1) ps xs) e in
+    ap (λ (r : Reading). r .line) (w .1) ∙ lines-line l (a .study) (k + 1) ps xs (sym (ap (λ (r : Reading). r .check) (w .1)) ∙ e)
+
+body-line : (l : Limits) (r : Read) (xs : List Line) → readBody l r xs .check ≡ Accepted → readBody l r xs .line ≡ 0
+body-line l (refused r) xs e = never e
+body-line l (counts cs) xs e = lines-line l emptyStudy 2 (kindsOf cs) xs e
+
+from-line : (l : Limits) (xs : List Line) → readFrom l xs .check ≡ Accepted → readFrom l xs .line ≡ 0
+from-line l [] e = never e
+from-line l (torn ∷ xs) e = never e
+from-line l (ended line ∷ xs) e = body-line l (contentsOf l line) xs e
+
+pub accepted-line : (l : Limits) (text : List ℕ) → readText l text .check ≡ Accepted → readText l text .line ≡ 0
+unfolding readText
+accepted-line l text e = go (leb (length text) 16384) e
+  where
+    go : (t : Bool) → cond t (readFrom l (linesOf text)) (refusedAt R.Form 0) .check ≡ Accepted → cond t (readFrom l (linesOf text)) (refusedAt R.Form 0) .line ≡ 0
+    go true f = from-line l (linesOf text) f
     go false f = never f
 
 -- a refused text gives the empty study

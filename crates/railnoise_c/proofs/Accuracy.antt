@@ -1,0 +1,86 @@
+-- Demand 3 for what C gets.
+-- Assumes nothing.
+use mathlib.Core.Path.{_≡_, refl, sym, ap, _∙_, subst}
+use mathlib.Core.List.{List}
+use Prim.Native.Nat.{ℕ, _≤_}
+use lib.IntN.{ℤ}
+use lib.ListN.{length}
+use Rattle.steps.specs.declared.Period.{Period}
+use Rattle.steps.specs.declared.Period.the-variants.{Day, Night}
+use Rattle.steps.specs.declared.Check.the-variants.{Accepted}
+use Rattle.steps.specs.Refusal.{checkNumber}
+use Rattle.study.specs.declared.request.PeriodResult.{PeriodResult}
+use Rattle.study.specs.declared.request.Answer.{Answer}
+use Rattle.study.specs.Add.{ours}
+use Rattle.study.specs.Plan.{Plan, planOf}
+use Rattle.study.specs.Levels.{ownMarks}
+use Rattle.study.specs.Request.{cellsNeeded, levelsCheck, answerBy, Answered, resultIn}
+use Rattle.study.specs.Accuracy.{AccurateToBare}
+use Rattle.study.proofs.Runs.{run-accepted}
+use Rattle.study.proofs.Demand3.{request-answered, ours-roomy}
+use Rattle.text.specs.Text.{readText}
+use Rattle.text.specs.Additions.{additionsOf}
+use Rattle.text.proofs.Runs.{accepted-text-is-run, accepted-line}
+use Rattle.text.proofs.Counted.{accepted-text-has-entry}
+use Rattle.text.proofs.Accuracy.{text-accurate}
+use Rattle.railnoise_c.specs.declared.RailnoiseAnswer.{RailnoiseAnswer}
+use Rattle.railnoise_c.specs.Exported.{isSilent, exportedPeriod, exported, answerWith, cellsWith, Called}
+use Rattle.railnoise_c.specs.Accuracy.{planIn, periodIn, PeriodAccurate, AnswerAccurate, CallAccurate}
+
+-- what C gets of a period's result is as accurate as the result
+exported-accurate : (p : Period) (plan : Plan) (x : PeriodResult) → AccurateToBare p plan x → PeriodAccurate p plan (exportedPeriod x)
+unfolding exportedPeriod
+exported-accurate p plan x a =
+    let level = a .accurate .level in
+    record {
+      bare = a .bare;
+      is = a .is;
+      only = a .only;
+      figure = ap isSilent level;
+      above = rw level (a .accurate .above);
+      below = rw level (a .accurate .below);
+      always = a .accurate .always;
+      never = a .accurate .never;
+    }
+
+period-exported : (p : Period) (line : ℕ) (a : Answer) → periodIn p (exported line a) ≡ exportedPeriod (resultIn p a)
+unfolding periodIn exported resultIn
+period-exported Day line a = refl
+period-exported Night line a = refl
+
+module _ (text : List ℕ) (before after : List ℤ) (r : RailnoiseAnswer) (call : Called text before after r) (ok : readText ours text .check ≡ Accepted) where
+  abbrev plan : Plan
+  plan = planOf (readText ours text .study)
+
+  abbrev answer : Answer
+  answer = answerBy (levelsCheck plan (length before)) plan (ownMarks plan)
+
+  whole : r ≡ exported 0 answer
+  unfolding answerWith
+  whole = rw (ok, accepted-line ours text ok) at (call .answer)
+
+  answered : Answered (readText ours text .study) before after answer
+  unfolding cellsWith
+  answered = record { by = record { cells = rw ok at (call .cells); answer = refl }; allowed = call .allowed }
+
+  plan-is : plan ≡ planIn text
+  unfolding planIn
+  plan-is = ap planOf (accepted-text-is-run ours text ok) ∙ run-accepted ours ours-roomy (additionsOf ours text)
+
+  module _ (enough : cellsNeeded (length (planIn text .entries)) ≤ length before) where
+    check-is : levelsCheck plan (length before) ≡ Accepted
+    unfolding planIn
+    check-is = rw plan-is (request-answered (planIn text) (length before) (accepted-text-has-entry text ok) enough)
+
+    accurate : AnswerAccurate (planIn text) r
+    unfolding exported planIn answerBy checkNumber
+    accurate =
+        subst (AnswerAccurate (planIn text)) (sym whole)
+        (record {
+          refusal = rw check-is refl;
+          line = refl;
+          period = λ p trains. rw (period-exported p 0 answer) (exported-accurate p (planIn text) (resultIn p answer) (text-accurate text ok p trains before after answer enough answered));
+        })
+
+pub call-accurate : CallAccurate
+call-accurate text before after r call ok enough = accurate text before after r call ok enough

@@ -1,0 +1,58 @@
+-- Demand 3 for what C gets: how far the level of each period lies from the bare level of what the text alone has accepted.
+-- Assumes nothing.
+use mathlib.Core.Path.{_≡_}
+use mathlib.Core.Bool.{true, false}
+use mathlib.Core.List.{List}
+use Prim.Native.Nat.{ℕ, _≤_}
+use lib.IntN.{ℤ, pos, _+ℤ_}
+use lib.ListN.{length}
+use lib.Signed.{_≤ℤ_, _<ℤ_}
+use Rattle.decibel.specs.Round.{micro}
+use Rattle.steps.specs.declared.Period.{Period}
+use Rattle.steps.specs.declared.Period.the-variants.{Day, Night}
+use Rattle.steps.specs.declared.Check.the-variants.{Accepted}
+use Rattle.study.specs.Plan.{Plan}
+use Rattle.study.specs.Add.{ours}
+use Rattle.study.specs.Run.{accepted}
+use Rattle.study.specs.Request.{cellsNeeded}
+use Rattle.study.specs.Accuracy.{hasTrains, Bare, alwaysFrom, neverBelow}
+use Rattle.text.specs.Text.{readText}
+use Rattle.text.specs.Additions.{additionsOf}
+use Rattle.railnoise_c.specs.declared.RailnoisePeriod.{RailnoisePeriod}
+use Rattle.railnoise_c.specs.declared.RailnoiseAnswer.{RailnoiseAnswer}
+use Rattle.railnoise_c.specs.Exported.{Called}
+
+-- the segments and entries of a text, by its lines alone: 01's "list of its segments and entries"
+unfoldable pub planIn : List ℕ → Plan
+planIn text = accepted ours (additionsOf ours text)
+
+-- the part of an answer for a period
+unfoldable pub periodIn : Period → RailnoiseAnswer → RailnoisePeriod
+periodIn Day r = r .day
+periodIn Night r = r .night
+
+-- there is one bare level; the level is a figure, which counts 100,000 microdecibels to the tenth, at most 0.46 dB from it;
+-- and it settles the verdict outside the band
+pub record PeriodAccurate (p : Period) (plan : Plan) (r : RailnoisePeriod) : Type 0 where
+  pub bare : ℤ
+  pub is : Bare p plan bare
+  pub only : (b : ℤ) → Bare p plan b → b ≡ bare
+  pub figure : r .silent ≡ false
+  pub above : micro (r .level) ≤ℤ (bare +ℤ pos 460000)
+  pub below : bare ≤ℤ (micro (r .level) +ℤ pos 460000)
+  pub always : alwaysFrom p ≤ℤ bare → r .met ≡ true
+  pub never : bare <ℤ neverBelow p → r .met ≡ false
+
+-- no refusal and no line at fault, and each period in which an entry has trains is accurate
+pub record AnswerAccurate (plan : Plan) (r : RailnoiseAnswer) : Type 0 where
+  pub refusal : r .refusal ≡ 0
+  pub line : r .line ≡ 0
+  pub period : (p : Period) → hasTrains p (plan .entries) ≡ true → PeriodAccurate p plan (periodIn p r)
+
+-- Demand 3 for a call from C, of whatever `railnoise_levels` ensures: for every text that is accepted and cells that suffice, whatever they held.
+-- Proved as `call-accurate` in proofs/Accuracy.antt
+abbrev pub CallAccurate : Type 0
+CallAccurate =
+    (text : List ℕ) (before after : List ℤ) (r : RailnoiseAnswer) → Called text before after r →
+    readText ours text .check ≡ Accepted → cellsNeeded (length (planIn text .entries)) ≤ length before →
+    AnswerAccurate (planIn text) r
