@@ -17,7 +17,7 @@ use Rattle.study.specs.Levels.{ownMarks}
 use Rattle.study.specs.Request.{cellsNeeded, levelsCheck, answerBy, Answered, resultIn}
 use Rattle.study.specs.Accuracy.{AccurateToBare}
 use Rattle.study.proofs.Runs.{run-accepted}
-use Rattle.study.proofs.Demand3.{request-answered, ours-roomy}
+use Rattle.study.proofs.Demand3.{request-answered, ours-fit}
 use Rattle.text.specs.Text.{readText}
 use Rattle.text.specs.Additions.{additionsOf}
 use Rattle.text.proofs.Runs.{accepted-text-is-run, accepted-line}
@@ -65,7 +65,7 @@ module _ (text : List ℕ) (before after : List ℤ) (r : RailnoiseAnswer) (call
 
   plan-is : plan ≡ planIn text
   unfolding planIn
-  plan-is = ap planOf (accepted-text-is-run ours text ok) ∙ run-accepted ours ours-roomy (additionsOf ours text)
+  plan-is = ap planOf (accepted-text-is-run ours text ok) ∙ run-accepted ours ours-fit (additionsOf ours text)
 
   module _ (enough : cellsNeeded (length (planIn text .entries)) ≤ length before) where
     check-is : levelsCheck plan (length before) ≡ Accepted

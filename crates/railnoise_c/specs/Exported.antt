@@ -16,7 +16,7 @@ use Rattle.study.specs.declared.request.Answer.{Answer}
 use Rattle.study.specs.Add.{ours}
 use Rattle.study.specs.Plan.{Plan, planOf}
 use Rattle.study.specs.Levels.{MarksAllowed, ownMarks}
-use Rattle.study.specs.Request.{levelsCheck, cellsBy, answerBy, quiet}
+use Rattle.study.specs.Request.{levelsCheck, cellsBy, answerBy, silentResult}
 use Rattle.text.specs.declared.Reading.{Reading}
 use Rattle.text.specs.Text.{readText}
 use Rattle.railnoise_c.specs.declared.RailnoisePeriod.{RailnoisePeriod}
@@ -51,7 +51,7 @@ exported line a =
 -- An accepted text's line is 0
 unfoldable pub answerWith : Check → ℕ → Plan → ℕ → RailnoiseAnswer
 answerWith Accepted line plan cells = exported line (answerBy (levelsCheck plan cells) plan (ownMarks plan))
-answerWith (Refused why) line plan cells = exported line (record { check = Refused why; day = quiet; night = quiet })
+answerWith (Refused why) line plan cells = exported line (record { check = Refused why; day = silentResult; night = silentResult })
 
 -- a refused text leaves the cells as they were, else the request over its study
 unfoldable pub cellsWith : Check → Plan → List ℤ → List ℤ

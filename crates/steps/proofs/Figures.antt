@@ -52,7 +52,7 @@ pub record Sum (n : ℕ) (x y r : ℤ) : Type 0 where
   pub small : Below n r
 
 module _ {m n : ℕ} {x y : ℤ} (a : Below m x) (b : Below n y) (h : m + n ≤ 1000000) where
-  -- what `plus` and `less` ask
+  -- what `plus` and `minus` ask
   pub summands : Below 1000000 (toZ w32 (ofZ w32 x)) × Below 1000000 (toZ w32 (ofZ w32 y))
   summands = (below-read (below-more (omega arith) a), below-read (below-more (omega arith) b))
 

@@ -36,7 +36,7 @@ signed-below h l f = record { most = omega (arith, f .most); least = omega (arit
 pub read-up : {a b n : ℕ} {z : ℤ} → b < 1000000 → From a b z → n ≡ up (read z) → n ≡ up z
 read-up h f e = e ∙ ap up (below-back (from-below h f))
 
--- the difference that `less` gives
+-- the difference that `minus` gives
 pub taken-off : (k : ℕ) {m : ℕ} {a r : ℤ} → m ≤ 1000000 → Below m a → r ≡ read a -ℤ pos k → Sum (m + suc k) a (negℤ (pos k)) r
 taken-off k {m} {a} h f e =
     let i = e ∙ ap (λ (x : ℤ). x -ℤ pos k) (below-back (below-more h f)) in

@@ -13,7 +13,7 @@ use crate::Check;
 use crate::Period;
 use crate::Train;
 use crate::checks;
-use crate::less;
+use crate::minus;
 use crate::natural;
 use crate::plus;
 use decibel::Level;
@@ -117,7 +117,7 @@ pub(crate) fn trains_step(t: &[u64], train: Train, period: Period) -> i32
     requires { ⌜ TrainRanges train × (0 < trainsIn period train) ⌝ }
     ensures { λ r. ⌜ Tenths (now (t .entry)) (nearest (trainsFence period train)) r ⌝ }
 {
-    less(decibel::ten_log(t, trains_in(train, period)), hours(period))
+    minus(decibel::ten_log(t, trains_in(train, period)), hours(period))
 }
 
 // The level of an accepted train in a period, from the sum of what does not depend on the period.

@@ -174,7 +174,7 @@ fn plus(a: i32, b: i32) -> i32
     a + b
 }
 
-fn less(a: i32, b: i32) -> i32
+fn minus(a: i32, b: i32) -> i32
     requires { ⌜ Below 1000000 a × Below 1000000 b ⌝ }
     ensures { λ r. ⌜ r ≡ a -ℤ b ⌝ }
 {
@@ -232,7 +232,7 @@ fn from_top(s: Segment) -> u64
     requires { ⌜ Placed s ⌝ }
     ensures { λ r. ⌜ Length (slant (s .distance -ℤ s .setback) (s .height -ℤ s .top)) r ⌝ }
 {
-    length_of(slant_of(less(s.distance, s.setback), less(s.height, s.top)))
+    length_of(slant_of(minus(s.distance, s.setback), minus(s.height, s.top)))
 }
 
 // Source to window.

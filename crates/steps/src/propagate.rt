@@ -44,7 +44,7 @@ pub(crate) fn air_step(s: Segment) -> i32
     ensures { λ r. ⌜ Exactly (nearest (airFence s)) r ⌝ }
 {
     let far = root_up(6400 * crate::slant_of(s.distance, s.height));
-    crate::less(((3250000 - far) / 100000) as i32, 30)
+    crate::minus(((3250000 - far) / 100000) as i32, 30)
 }
 
 // y in billionths.
@@ -62,7 +62,7 @@ pub(crate) fn angle_step(t: &[u64], s: Segment) -> i32
     ensures { λ r. ⌜ Tenths (now (t .entry)) (nearest (angleFence s)) r ⌝ }
 {
     let y = y_of(t, crate::natural(s.view), crate::natural(s.doubled));
-    crate::less(decibel::ten_log(t, crate::wide_natural(y)), 950)
+    crate::minus(decibel::ten_log(t, crate::wide_natural(y)), 950)
 }
 
 // Opposite facades.
@@ -121,7 +121,7 @@ fn ground_tenths(a: u64) -> i32
     requires { ⌜ a < 20000000 ⌝ }
     ensures { λ r. ⌜ r ≡ negℤ (pos ((a + 48499) / 100000)) ⌝ }
 {
-    crate::less(0, ((a + 48499) / 100000) as i32)
+    crate::minus(0, ((a + 48499) / 100000) as i32)
 }
 
 // The ground's close mark: at most 0.0015 dB from a tie.

@@ -18,7 +18,7 @@ use Rattle.study.specs.declared.Entry.{Entry}
 use Rattle.study.specs.declared.request.Answer.{Answer}
 use Rattle.study.specs.Plan.{Plan, planOf}
 use Rattle.study.specs.Add.{Limits, ours}
-use Rattle.study.specs.Run.{Addition, run, accepted, Roomy}
+use Rattle.study.specs.Run.{Addition, run, accepted, LimitsFit}
 use Rattle.study.specs.Levels.{Marks, resultBy}
 use Rattle.study.specs.Request.{cellsNeeded, levelsCheck, answerBy, AnsweredBy, Answered, resultIn}
 use Rattle.study.specs.Accuracy.{hasTrains, AccurateToBare, Demand3}
@@ -43,28 +43,28 @@ result-in Night plan m = refl
 
 pub demand-3 : Demand3
 unfolding answerBy
-demand-3 l roomy additions p trains m before after r enough by =
+demand-3 l fit additions p trains m before after r enough by =
     let plan = accepted l additions in
     let held = accepted-held l additions in
     let check : levelsCheck plan (length before) ≡ Accepted = request-answered plan (length before) (some-entry p (plan .entries) trains) enough in
-    let whole : r ≡ answerBy Accepted plan m = rw (run-accepted l roomy additions, check) at (by .answer) in (
+    let whole : r ≡ answerBy Accepted plan m = rw (run-accepted l fit additions, check) at (by .answer) in (
       ap (λ (a : Answer). a .check) whole,
-      rw (whole, result-in p plan m) (result-accurate p plan m held (le-trans (held .total) (roomy .entries)) trains),
+      rw (whole, result-in p plan m) (result-accurate p plan m held (le-trans (held .total) (fit .entries)) trains),
     )
 
 -- The same of what `levels` ensures, by the program's own marks.
-pub levels-accurate : (l : Limits) → Roomy l → (additions : List Addition) (p : Period) → hasTrains p (accepted l additions .entries) ≡ true →
+pub levels-accurate : (l : Limits) → LimitsFit l → (additions : List Addition) (p : Period) → hasTrains p (accepted l additions .entries) ≡ true →
     (before after : List ℤ) (r : Answer) → cellsNeeded (length (accepted l additions .entries)) ≤ length before → Answered (run l additions) before after r →
     AccurateToBare p (accepted l additions) (resultIn p r)
-levels-accurate l roomy additions p trains before after r enough a = demand-3 l roomy additions p trains _ before after r enough (a .by) .1
+levels-accurate l fit additions p trains before after r enough a = demand-3 l fit additions p trains _ before after r enough (a .by) .1
 
 -- Our own limits, so that no premise on sizes is left.
-pub ours-roomy : Roomy ours
-ours-roomy = record { segments = le-refl 24; entries = le-refl 96 }
+pub ours-fit : LimitsFit ours
+ours-fit = record { segments = le-refl 24; entries = le-refl 96 }
 
 -- Document 01's demand 3, at its own limits of 24 segments and 96 entries, with nothing assumed of sizes.
 pub demand-3-ours : (additions : List Addition) (p : Period) → hasTrains p (accepted ours additions .entries) ≡ true →
     (m : Marks) (before after : List ℤ) (r : Answer) → cellsNeeded (length (accepted ours additions .entries)) ≤ length before →
     AnsweredBy (planOf (run ours additions)) m before after r →
     (r .check ≡ Accepted) × AccurateToBare p (accepted ours additions) (resultIn p r)
-demand-3-ours = demand-3 ours ours-roomy
+demand-3-ours = demand-3 ours ours-fit

@@ -15,7 +15,7 @@ use Rattle.study.specs.declared.Entry.{Entry}
 use Rattle.study.specs.declared.Study.{Study}
 use Rattle.study.specs.Plan.{Plan, planOf, emptyPlan, emptyStudy}
 use Rattle.study.specs.Add.{Limits, addSegment, addTrain, withSegment, withTrain}
-use Rattle.study.specs.Run.{Addition, segment, train, step, runFrom, run, kept, extend, extendAll, accepted, Roomy, Sized, Each, none, next, EntryHeld, Held, checkOf, acceptedOnly, trainsOf, listedFrom, listed}
+use Rattle.study.specs.Run.{Addition, segment, train, step, runFrom, run, kept, extend, extendAll, accepted, LimitsFit, Sized, Each, none, next, EntryHeld, Held, checkOf, acceptedOnly, trainsOf, listedFrom, listed}
 use Rattle.study.proofs.Additions.{refused-study, train-taken}
 use Rattle.study.proofs.Plans.{extend-held, refused-stays, by-one}
 use Rattle.study.proofs.Runs.{step-sized, empty-sized, placed-length, rows-length, step-plan, run-accepted}
@@ -98,25 +98,25 @@ listed-accepted l additions = listed-all l additions emptyPlan (record { count =
 
 -- ---- a study runs by those that it accepts
 
-module _ (l : Limits) (roomy : Roomy l) (st : Study) (sized : Sized l st) where
+module _ (l : Limits) (fit : LimitsFit l) (st : Study) (sized : Sized l st) where
   refused-step : (a : Addition) (r : Refusal) → checkOf l (planOf st) a ≡ Refused r → step l st a ≡ st
   unfolding checkOf step addSegment addTrain planOf
-  refused-step (segment s) r e = refused-study st (withSegment st s) (rw (placed-length l roomy st sized) at e)
-  refused-step (train t) r e = refused-study st (withTrain st t) (rw (placed-length l roomy st sized, rows-length l roomy st sized) at e)
+  refused-step (segment s) r e = refused-study st (withSegment st s) (rw (placed-length l fit st sized) at e)
+  refused-step (train t) r e = refused-study st (withTrain st t) (rw (placed-length l fit st sized, rows-length l fit st sized) at e)
 
-run-kept : (l : Limits) → Roomy l → (additions : List Addition) (st : Study) → Sized l st → runFrom l st (acceptedOnly l (planOf st) additions) ≡ runFrom l st additions
+run-kept : (l : Limits) → LimitsFit l → (additions : List Addition) (st : Study) → Sized l st → runFrom l st (acceptedOnly l (planOf st) additions) ≡ runFrom l st additions
 unfolding runFrom acceptedOnly
-run-kept l roomy [] st sized = refl
-run-kept l roomy (a ∷ rest) st sized =
+run-kept l fit [] st sized = refl
+run-kept l fit (a ∷ rest) st sized =
     let only = acceptedOnly l (extend l (planOf st) a) rest in
     let same : runFrom l (step l st a) only ≡ runFrom l (step l st a) rest =
-    rw (← step-plan l roomy st sized a) (run-kept l roomy rest (step l st a) (step-sized l st sized a)) in
+    rw (← step-plan l fit st sized a) (run-kept l fit rest (step l st a) (step-sized l st sized a)) in
     by-one (λ (xs : List Addition). runFrom l st xs ≡ runFrom l (step l st a) rest) (checkOf l (planOf st) a) a only
     (λ e. same)
-    (λ r e. ap (λ (x : Study). runFrom l x only) (sym (refused-step l roomy st sized a r e)) ∙ same)
+    (λ r e. ap (λ (x : Study). runFrom l x only) (sym (refused-step l fit st sized a r e)) ∙ same)
 
 -- a study that additions made is the one of its own segments and entries
-pub run-listed : (l : Limits) → Roomy l → (additions : List Addition) → run l (listed (planOf (run l additions))) ≡ run l additions
+pub run-listed : (l : Limits) → LimitsFit l → (additions : List Addition) → run l (listed (planOf (run l additions))) ≡ run l additions
 unfolding run planOf emptyStudy
-run-listed l roomy additions =
-    ap (λ (p : Plan). run l (listed p)) (run-accepted l roomy additions) ∙ ap (run l) (listed-accepted l additions) ∙ run-kept l roomy additions emptyStudy (empty-sized l)
+run-listed l fit additions =
+    ap (λ (p : Plan). run l (listed p)) (run-accepted l fit additions) ∙ ap (run l) (listed-accepted l additions) ∙ run-kept l fit additions emptyStudy (empty-sized l)

@@ -15,7 +15,7 @@ use Rattle.study.specs.declared.Entry.{Entry}
 use Rattle.study.specs.declared.Study.{Study}
 use Rattle.study.specs.Plan.{Plan, planOf, emptyStudy}
 use Rattle.study.specs.Add.{Limits, segmentAnswer, trainAnswer, addSegment, addTrain, answer, withSegment, withTrain}
-use Rattle.study.specs.Run.{Addition, segment, train, step, runFrom, run, kept, extend, extendAll, accepted, Roomy, Sized}
+use Rattle.study.specs.Run.{Addition, segment, train, step, runFrom, run, kept, extend, extendAll, accepted, LimitsFit, Sized}
 use Rattle.study.proofs.Additions.{by-answer, segment-taken, train-taken}
 
 -- ---- the study's size
@@ -62,44 +62,44 @@ run-sized l additions = from-sized l additions emptyStudy (empty-sized l)
 
 -- ---- the study's plan
 
-module _ (l : Limits) (roomy : Roomy l) (st : Study) (sized : Sized l st) where
+module _ (l : Limits) (fit : LimitsFit l) (st : Study) (sized : Sized l st) where
   pub placed-length : length (take (st .count) (st .segments)) ≡ st .count
-  placed-length = length-take-le (st .count) (st .segments) (omega (arith, sized .places, sized .count, roomy .segments))
+  placed-length = length-take-le (st .count) (st .segments) (omega (arith, sized .places, sized .count, fit .segments))
 
   pub rows-length : length (take (st .total) (st .entries)) ≡ st .total
-  rows-length = length-take-le (st .total) (st .entries) (omega (arith, sized .rows, sized .total, roomy .entries))
+  rows-length = length-take-le (st .total) (st .entries) (omega (arith, sized .rows, sized .total, fit .entries))
 
 plan-by : (check : Check) (old new : Study) (q : Plan) → (check ≡ Accepted → planOf new ≡ q) → planOf (answer check old new .study) ≡ kept check (planOf old) q
 unfolding answer kept
 plan-by Accepted old new q h = h refl
 plan-by (Refused r) old new q h = refl
 
-pub step-plan : (l : Limits) → Roomy l → (st : Study) → Sized l st → (a : Addition) → planOf (step l st a) ≡ extend l (planOf st) a
+pub step-plan : (l : Limits) → LimitsFit l → (st : Study) → Sized l st → (a : Addition) → planOf (step l st a) ≡ extend l (planOf st) a
 unfolding step extend addSegment addTrain planOf withSegment withTrain
-step-plan l roomy st sized (segment s) =
-    rw (placed-length l roomy st sized)
+step-plan l fit st sized (segment s) =
+    rw (placed-length l fit st sized)
     (plan-by (segmentAnswer l (st .count) s) st (withSegment st s) _
     (λ e.
     let room = segment-taken l (st .count) s e .room in
-    rw (add-one, take-suc-set (st .segments) (st .count) s (omega (arith, sized .places, roomy .segments)))))
-step-plan l roomy st sized (train t) =
+    rw (add-one, take-suc-set (st .segments) (st .count) s (omega (arith, sized .places, fit .segments)))))
+step-plan l fit st sized (train t) =
     let e : Entry = record { segment = st .count - 1; train = t } in
-    rw (placed-length l roomy st sized, rows-length l roomy st sized)
+    rw (placed-length l fit st sized, rows-length l fit st sized)
     (plan-by (trainAnswer l (st .count) (st .total) t) st (withTrain st t) _
     (λ z.
     let room = train-taken l (st .count) (st .total) t z .room in
-    rw (add-one, take-suc-set (st .entries) (st .total) e (omega (arith, sized .rows, roomy .entries)))))
+    rw (add-one, take-suc-set (st .entries) (st .total) e (omega (arith, sized .rows, fit .entries)))))
 
-from-plan : (l : Limits) → Roomy l → (additions : List Addition) (st : Study) → Sized l st → planOf (runFrom l st additions) ≡ extendAll l (planOf st) additions
+from-plan : (l : Limits) → LimitsFit l → (additions : List Addition) (st : Study) → Sized l st → planOf (runFrom l st additions) ≡ extendAll l (planOf st) additions
 unfolding runFrom extendAll
-from-plan l roomy [] st sized = refl
-from-plan l roomy (a ∷ rest) st sized =
-    from-plan l roomy rest (step l st a) (step-sized l st sized a) ∙ ap (λ (p : Plan). extendAll l p rest) (step-plan l roomy st sized a)
+from-plan l fit [] st sized = refl
+from-plan l fit (a ∷ rest) st sized =
+    from-plan l fit rest (step l st a) (step-sized l st sized a) ∙ ap (λ (p : Plan). extendAll l p rest) (step-plan l fit st sized a)
 
 -- a run's study holds what the list alone says was accepted
-pub run-accepted : (l : Limits) → Roomy l → (additions : List Addition) → planOf (run l additions) ≡ accepted l additions
+pub run-accepted : (l : Limits) → LimitsFit l → (additions : List Addition) → planOf (run l additions) ≡ accepted l additions
 unfolding run accepted planOf emptyStudy
-run-accepted l roomy additions = from-plan l roomy additions emptyStudy (empty-sized l)
+run-accepted l fit additions = from-plan l fit additions emptyStudy (empty-sized l)
 
 -- ---- one run after another
 

@@ -19,7 +19,7 @@ use Rattle.steps.specs.declared.Check.the-variants.{Accepted}
 use Rattle.study.specs.declared.request.Answer.{Answer}
 use Rattle.study.specs.Plan.{Plan, segmentAt, planOf}
 use Rattle.study.specs.Add.{Limits}
-use Rattle.study.specs.Run.{Addition, run, accepted, Roomy}
+use Rattle.study.specs.Run.{Addition, run, accepted, LimitsFit}
 use Rattle.study.specs.Levels.{Marks}
 use Rattle.study.specs.Request.{cellsNeeded, AnsweredBy, resultIn}
 
@@ -68,7 +68,7 @@ pub record AccurateToBare (p : Period) (plan : Plan) (r : PeriodResult) : Type 0
 -- Proved as `demand-3` in proofs/Demand3.antt, for any limits up to 24 and 96
 abbrev pub Demand3 : Type 0
 Demand3 =
-    (l : Limits) → Roomy l → (additions : List Addition) (p : Period) → hasTrains p (accepted l additions .entries) ≡ true →
+    (l : Limits) → LimitsFit l → (additions : List Addition) (p : Period) → hasTrains p (accepted l additions .entries) ≡ true →
     (m : Marks) (before after : List ℤ) (r : Answer) → cellsNeeded (length (accepted l additions .entries)) ≤ length before →
     AnsweredBy (planOf (run l additions)) m before after r →
     (r .check ≡ Accepted) × AccurateToBare p (accepted l additions) (resultIn p r)

@@ -38,11 +38,11 @@ unfoldable pub cellsBy : Check → Plan → Marks → List ℤ → List ℤ
 cellsBy Accepted plan m cells = cellsAnswered plan m cells
 cellsBy (Refused r) plan m cells = cells
 
-abbrev pub quiet : PeriodResult
-quiet = record { level = Silent; close = 0; met = false }
+abbrev pub silentResult : PeriodResult
+silentResult = record { level = Silent; close = 0; met = false }
 
 unfoldable pub refusedBy : Refusal → Answer
-refusedBy r = record { check = Refused r; day = quiet; night = quiet }
+refusedBy r = record { check = Refused r; day = silentResult; night = silentResult }
 
 unfoldable pub answerBy : Check → Plan → Marks → Answer
 answerBy Accepted plan m = record { check = Accepted; day = resultBy Day plan m; night = resultBy Night plan m }

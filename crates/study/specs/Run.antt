@@ -53,7 +53,7 @@ unfoldable pub accepted : Limits → List Addition → Plan
 accepted l additions = extendAll l emptyPlan additions
 
 -- limits that the arrays of a study have room for
-pub record Roomy (l : Limits) : Type 0 where
+pub record LimitsFit (l : Limits) : Type 0 where
   pub segments : l .segments ≤ 24
   pub entries : l .entries ≤ 96
 

@@ -201,18 +201,18 @@ fn period_of(
 }
 
 // A refusal, with two silent results.
-fn turned_back(refusal: Refusal) -> Answer
+fn refusal_answer(refusal: Refusal) -> Answer
     ensures { λ r. ⌜ r ≡ refusedBy refusal ⌝ }
 {
-    let quiet = PeriodResult {
+    let silent = PeriodResult {
         level: Level::Silent,
         close: 0,
         met: false,
     };
     Answer {
         check: Check::Refused(refusal),
-        day: quiet,
-        night: quiet,
+        day: silent,
+        night: silent,
     }
 }
 
@@ -239,10 +239,10 @@ pub fn levels(study: Study, cells: &mut [i32]) -> Answer
 {
     let total = at_most(study.total, MOST_ENTRIES);
     if total == 0 {
-        return turned_back(Refusal::NoEntry);
+        return refusal_answer(Refusal::NoEntry);
     }
     if cells.len() < total + total {
-        return turned_back(Refusal::FewCells);
+        return refusal_answer(Refusal::FewCells);
     }
     answered(study, total, cells)
 }

@@ -14,7 +14,7 @@ use Rattle.study.specs.Add.{ours}
 use Rattle.study.specs.Run.{accepted}
 use Rattle.study.specs.Request.{cellsNeeded, Answered, resultIn}
 use Rattle.study.specs.Accuracy.{hasTrains, AccurateToBare}
-use Rattle.study.proofs.Demand3.{levels-accurate, ours-roomy}
+use Rattle.study.proofs.Demand3.{levels-accurate, ours-fit}
 use Rattle.text.specs.Text.{readText}
 use Rattle.text.specs.Additions.{additionsOf}
 use Rattle.text.proofs.Runs.{accepted-text-is-run}
@@ -23,5 +23,5 @@ pub text-accurate : (text : List ℕ) → readText ours text .check ≡ Accepted
     (before after : List ℤ) (r : Answer) → cellsNeeded (length (accepted ours (additionsOf ours text) .entries)) ≤ length before →
     Answered (readText ours text .study) before after r → AccurateToBare p (accepted ours (additionsOf ours text)) (resultIn p r)
 text-accurate text ok p trains before after r enough a =
-    levels-accurate ours ours-roomy (additionsOf ours text) p trains before after r enough
+    levels-accurate ours ours-fit (additionsOf ours text) p trains before after r enough
     (subst (λ (st : Study). Answered st before after r) (accepted-text-is-run ours text ok) a)

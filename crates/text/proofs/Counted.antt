@@ -18,11 +18,11 @@ use Rattle.study.specs.Plan.{Plan, planOf, emptyStudy}
 use Rattle.study.specs.Add.{Limits, ours, segmentAnswer, trainAnswer, withSegment, withTrain, answer, addSegment, addTrain}
 use Rattle.study.specs.Run.{run, accepted}
 use Rattle.study.proofs.Runs.{run-sized, run-accepted}
-use Rattle.study.proofs.Demand3.{ours-roomy}
+use Rattle.study.proofs.Demand3.{ours-fit}
 use Rattle.text.specs.Numbers.{numbersOf}
 use Rattle.text.specs.Lines.{segmentOf, trainOf}
 use Rattle.text.specs.Contents.{Read, refused, counts, isCount, countsIn, sumOf, between, inAll, contentsIn, contentsOf}
-use Rattle.text.specs.Text.{Line, ended, torn, linesOf, Kind, kindsOf, segmentAdds, trainAdds, addLine, refusedAt, readLines, readBody, readFrom, readText}
+use Rattle.text.specs.Text.{Line, ended, unended, linesOf, Kind, kindsOf, segmentAdds, trainAdds, addLine, refusedAt, readLines, readBody, readFrom, readText}
 use Rattle.text.specs.Text as K
 use Rattle.text.specs.Additions.{additionsOf}
 use Rattle.text.specs.declared.Reading.{Reading}
@@ -43,7 +43,7 @@ accepted-new (Refused r) old new e = never e
 
 line-total : (l : Limits) (p : Kind) (st : Study) (x : Line) (ps : List Kind) → addLine l p st x .check ≡ Accepted → addLine l p st x .study .total + trainsIn ps ≡ st .total + trainsIn (p ∷ ps)
 unfolding addLine addSegment addTrain withSegment withTrain
-line-total l p st torn ps e = never e
+line-total l p st unended ps e = never e
 line-total l K.Segment st (ended line) ps e = go (segmentOf line) e
   where
     go : (r : SegmentLine) → segmentAdds l st r .check ≡ Accepted → segmentAdds l st r .study .total + trainsIn ps ≡ st .total + trainsIn ps
@@ -103,7 +103,7 @@ module _ (l : Limits) where
   from-total : (xs : List Line) → readFrom l xs .check ≡ Accepted → 0 < readFrom l xs .study .total
   unfolding contentsOf
   from-total [] e = never e
-  from-total (torn ∷ xs) e = never e
+  from-total (unended ∷ xs) e = never e
   from-total (ended line ∷ xs) e = body-total (contentsOf l line) xs (contents-some (numbersOf line)) e
 
   pub accepted-total : (text : List ℕ) → readText l text .check ≡ Accepted → 0 < readText l text .study .total
@@ -122,5 +122,5 @@ held-some st rows h = omega (arith, length-take (st .total) (st .entries))
 pub accepted-text-has-entry : (text : List ℕ) → readText ours text .check ≡ Accepted → 0 < length (accepted ours (additionsOf ours text) .entries)
 accepted-text-has-entry text e =
     let additions = additionsOf ours text in
-    subst (λ (plan : Plan). 0 < length (plan .entries)) (run-accepted ours ours-roomy additions)
+    subst (λ (plan : Plan). 0 < length (plan .entries)) (run-accepted ours ours-fit additions)
     (held-some (run ours additions) (run-sized ours additions .rows) (subst (λ (st : Study). 0 < st .total) (accepted-text-is-run ours text e) (accepted-total ours text e)))

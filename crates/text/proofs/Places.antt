@@ -17,7 +17,7 @@ use Rattle.steps.specs.declared.Train.{Train}
 use Rattle.study.specs.Add.{ours}
 use Rattle.text.specs.Bytes.{until, split}
 use Rattle.text.specs.Lines.{segmentOf, trainOf}
-use Rattle.text.specs.Text.{ended, torn, lastLine, linesIn, linesOf}
+use Rattle.text.specs.Text.{ended, unended, lastLine, linesIn, linesOf}
 use Rattle.text.specs.Parts.{Found, firstAnswer, segmentLineAnswer, trainLineAnswer, SegmentAt, TrainAt, faultOf}
 use Rattle.text.specs.declared.lines.SegmentLine.the-variants as S
 use Rattle.text.specs.declared.lines.TrainLine.the-variants as T
@@ -28,7 +28,7 @@ use Rattle.text.specs.declared.TrainStep.the-variants as TS
 use Rattle.text.proofs.Bytes.{split-first, until-within}
 use Rattle.text.proofs.Positions.{lt-or-ge}
 
-last-torn : (u : List ℕ) → 0 < length u → lastLine u ≡ torn ∷ []
+last-torn : (u : List ℕ) → 0 < length u → lastLine u ≡ unended ∷ []
 last-torn [] h = absurd (omega arith)
 last-torn (b ∷ bs) h = refl
 
@@ -38,7 +38,7 @@ lines-more u x = rw (split-first 10 x)
 
 pub data View (text : List ℕ) (at : ℕ) : Type 0 where
   at-end : length text ≤ at → linesOf (drop at text) ≡ [] → View text at
-  at-torn : at < length text → at + length (until 10 (drop at text)) ≡ length text → linesOf (drop at text) ≡ torn ∷ [] → View text at
+  at-torn : at < length text → at + length (until 10 (drop at text)) ≡ length text → linesOf (drop at text) ≡ unended ∷ [] → View text at
   at-line : at + length (until 10 (drop at text)) + 1 ≤ length text
       → linesOf (drop at text) ≡ ended (until 10 (drop at text)) ∷ linesOf (drop (at + length (until 10 (drop at text)) + 1) text) → View text at
 

@@ -25,7 +25,7 @@ use Rattle.study.specs.Add.{Limits, segmentLimit, segmentAnswer, trainLimit, tr
 use Rattle.text.specs.Numbers.{front, numbersOf}
 use Rattle.text.specs.Lines.{segmentOf, trainOf}
 use Rattle.text.specs.Contents.{Read, refused, counts, isCount, countsIn, sumOf, between, inAll, contentsIn, contentsOf}
-use Rattle.text.specs.Text.{Line, ended, torn, linesOf, Kind, trains, kindsOf, turnedBack, segmentAdds, trainAdds, addLine, refusedAt, after, readLines, readBody, readFrom, readText}
+use Rattle.text.specs.Text.{Line, ended, unended, linesOf, Kind, trains, kindsOf, refusedAddition, segmentAdds, trainAdds, addLine, refusedAt, after, readLines, readBody, readFrom, readText}
 use Rattle.text.specs.Text as K
 use Rattle.text.specs.declared.Reading.{Reading}
 use Rattle.text.specs.declared.lines.SegmentLine.{SegmentLine}
@@ -93,7 +93,7 @@ module _ (l : Limits) (st : Study) (ps : List Kind) where
   answer-fine Accepted new o room = (o, λ e. room)
   answer-fine (Refused r) new o room = (o, λ e. never e)
 
-  malformed-fine : Fine l ps (turnedBack st R.Form)
+  malformed-fine : Fine l ps (refusedAddition st R.Form)
   unfolding checkNumber numberOf
   malformed-fine = (omega arith, λ e. never e)
 
@@ -113,7 +113,7 @@ module _ (l : Limits) (st : Study) (ps : List Kind) where
 
 line-fine : (l : Limits) (p : Kind) (st : Study) (ps : List Kind) (x : Line) → Room l st (p ∷ ps) → Fine l ps (addLine l p st x)
 unfolding addLine
-line-fine l p st ps torn h = malformed-fine l st ps
+line-fine l p st ps unended h = malformed-fine l st ps
 line-fine l K.Segment st ps (ended line) h = go (segmentOf line)
   where
     go : (r : SegmentLine) → Fine l ps (segmentAdds l st r)
@@ -230,7 +230,7 @@ module _ (l : Limits) where
   from-own : (xs : List Line) → Own (readFrom l xs .check)
   unfolding checkNumber numberOf contentsOf
   from-own [] = omega arith
-  from-own (torn ∷ xs) = omega arith
+  from-own (unended ∷ xs) = omega arith
   from-own (ended line ∷ xs) = body-own (contentsOf l line) xs (contents-given (numbersOf line))
 
   -- no text is turned back by the study's condition: its number is a figure's, 12 or 13

@@ -20,7 +20,7 @@ use Rattle.text.specs.Bytes.{until}
 use Rattle.text.specs.Lines.{segmentOf, trainOf}
 use Rattle.text.specs.Contents.{Read, contentsOf}
 use Rattle.text.specs.Text as K
-use Rattle.text.specs.Text.{Line, ended, torn, linesOf, Kind, trains, kindsOf, segmentAdds, trainAdds, addLine, acceptedWith, refusedAt, readLines, readBody, readFrom, readText}
+use Rattle.text.specs.Text.{Line, ended, unended, linesOf, Kind, trains, kindsOf, segmentAdds, trainAdds, addLine, acceptedWith, refusedAt, readLines, readBody, readFrom, readText}
 use Rattle.text.specs.Parts.{Found, segmentLineAnswer, trainLineAnswer, firstAnswer, ContentsRead}
 use Rattle.text.specs.declared.Reading.{Reading}
 use Rattle.text.specs.declared.contents.Contents as contents
@@ -81,7 +81,7 @@ read-fault : {l : Limits} {p : Kind} {st : Study} {A : Type 0} (reader : Reader 
     → firstAnswer (reader .read) (reader .answers) xs ≡ Refused f → readLines l st k (p ∷ ps) xs ≡ refusedAt f k
 unfolding readLines firstAnswer addLine answer
 read-fault reader k ps [] e = cc
-read-fault reader k ps (torn ∷ xs) e = cc
+read-fault reader k ps (unended ∷ xs) e = cc
 read-fault reader k ps (ended line ∷ xs) e = rw (reader .adds line, e)
 
 -- no kind of line is left

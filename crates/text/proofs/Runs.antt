@@ -13,11 +13,11 @@ use Rattle.steps.specs.declared.Check.the-variants.{Accepted, Refused}
 use Rattle.study.specs.declared.Study.{Study}
 use Rattle.study.specs.Plan.{planOf, emptyStudy}
 use Rattle.study.specs.Add.{Limits}
-use Rattle.study.specs.Run.{Addition, step, runFrom, run, Roomy, listed}
+use Rattle.study.specs.Run.{Addition, step, runFrom, run, LimitsFit, listed}
 use Rattle.study.proofs.Listed.{run-listed}
 use Rattle.text.specs.Lines.{segmentOf, trainOf}
 use Rattle.text.specs.Contents.{Read, refused, counts, contentsOf}
-use Rattle.text.specs.Text.{Line, ended, torn, linesOf, Kind, kindsOf, segmentAdds, trainAdds, addLine, acceptedWith, refusedAt, after, readLines, readBody, readFrom, readText}
+use Rattle.text.specs.Text.{Line, ended, unended, linesOf, Kind, kindsOf, segmentAdds, trainAdds, addLine, acceptedWith, refusedAt, after, readLines, readBody, readFrom, readText}
 use Rattle.text.specs.Additions.{segmentAddition, trainAddition, lineAdditions, linesAdditions, bodyAdditions, additionsIn, additionsOf}
 use Rattle.text.specs.Text as K
 use Rattle.text.specs.declared.Reading.{Reading}
@@ -31,7 +31,7 @@ use Rattle.text.proofs.Rest.{never, Rest, rest-done}
 line-runs : (l : Limits) (p : Kind) (st : Study) (x : Line) (rest : List Addition) → addLine l p st x .check ≡ Accepted
     → runFrom l (addLine l p st x .study) rest ≡ runFrom l st (lineAdditions p x ++ rest)
 unfolding addLine lineAdditions runFrom step
-line-runs l p st torn rest e = never e
+line-runs l p st unended rest e = never e
 line-runs l K.Segment st (ended line) rest e = go (segmentOf line) e
   where
     go : (r : SegmentLine) → segmentAdds l st r .check ≡ Accepted → runFrom l (segmentAdds l st r .study) rest ≡ runFrom l st (segmentAddition r ++ rest)
@@ -62,15 +62,15 @@ lines-run l st k (p ∷ ps) (x ∷ xs) e =
     ∙ line-runs l p st x (linesAdditions ps xs) (w .0)
 
 -- the study of a reading that has come to its end is a run, so listed and added again it is the same
-pub rest-listed : {l : Limits} → Roomy l → {text : List ℕ} {start : ℕ} {counts : List ℕ} {st : Study} {at k : ℕ} → Rest l text start counts st at k [] → length text ≤ at
+pub rest-listed : {l : Limits} → LimitsFit l → {text : List ℕ} {start : ℕ} {counts : List ℕ} {st : Study} {at k : ℕ} → Rest l text start counts st at k [] → length text ≤ at
     → {made : Study} → made ≡ run l (listed (planOf st)) → acceptedWith made ≡ readLines l emptyStudy 2 (kindsOf counts) (linesOf (drop start text))
 unfolding run
-rest-listed {l} roomy {text} {start} {counts} {st} r h {made} e =
+rest-listed {l} fit {text} {start} {counts} {st} r h {made} e =
     let done = rest-done r h in
     let xs = linesOf (drop start text) in
     let held : st ≡ run l (linesAdditions (kindsOf counts) xs) =
     sym (ap (λ (x : Reading). x .study) done) ∙ lines-run l emptyStudy 2 (kindsOf counts) xs (ap (λ (x : Reading). x .check) done) in
-    let same : made ≡ st = e ∙ rw held (run-listed l roomy (linesAdditions (kindsOf counts) xs)) in
+    let same : made ≡ st = e ∙ rw held (run-listed l fit (linesAdditions (kindsOf counts) xs)) in
     rw same (sym done)
 
 body-runs : (l : Limits) (r : Read) (xs : List Line) → readBody l r xs .check ≡ Accepted → readBody l r xs .study ≡ run l (bodyAdditions r xs)
@@ -80,7 +80,7 @@ body-runs l (counts cs) xs e = lines-run l emptyStudy 2 (kindsOf cs) xs e
 
 from-runs : (l : Limits) (xs : List Line) → readFrom l xs .check ≡ Accepted → readFrom l xs .study ≡ run l (additionsIn l xs)
 from-runs l [] e = never e
-from-runs l (torn ∷ xs) e = never e
+from-runs l (unended ∷ xs) e = never e
 from-runs l (ended line ∷ xs) e = body-runs l (contentsOf l line) xs e
 
 -- an accepted text's study is that of its lines' additions, in order
@@ -110,7 +110,7 @@ body-line l (counts cs) xs e = lines-line l emptyStudy 2 (kindsOf cs) xs e
 
 from-line : (l : Limits) (xs : List Line) → readFrom l xs .check ≡ Accepted → readFrom l xs .line ≡ 0
 from-line l [] e = never e
-from-line l (torn ∷ xs) e = never e
+from-line l (unended ∷ xs) e = never e
 from-line l (ended line ∷ xs) e = body-line l (contentsOf l line) xs e
 
 pub accepted-line : (l : Limits) (text : List ℕ) → readText l text .check ≡ Accepted → readText l text .line ≡ 0
@@ -143,7 +143,7 @@ body-refused l (counts cs) xs f e = lines-refused l emptyStudy 2 (kindsOf cs) xs
 
 from-refused : (l : Limits) (xs : List Line) (f : Refusal) → readFrom l xs .check ≡ Refused f → readFrom l xs .study ≡ emptyStudy
 from-refused l [] f e = refl
-from-refused l (torn ∷ xs) f e = refl
+from-refused l (unended ∷ xs) f e = refl
 from-refused l (ended line ∷ xs) f e = body-refused l (contentsOf l line) xs f e
 
 pub refused-text-is-empty : (l : Limits) (text : List ℕ) (f : Refusal) → readText l text .check ≡ Refused f → readText l text .study ≡ emptyStudy

@@ -7,7 +7,7 @@ use Rattle.study.specs.Run.{Addition}
 use Rattle.study.specs.Run as Run
 use Rattle.text.specs.Lines.{segmentOf, trainOf}
 use Rattle.text.specs.Contents.{Read, refused, counts, contentsOf}
-use Rattle.text.specs.Text.{Line, ended, torn, linesOf, Kind, Segment, Train, kindsOf}
+use Rattle.text.specs.Text.{Line, ended, unended, linesOf, Kind, Segment, Train, kindsOf}
 use Rattle.text.specs.declared.lines.SegmentLine.{SegmentLine}
 use Rattle.text.specs.declared.lines.SegmentLine.the-variants as S
 use Rattle.text.specs.declared.lines.TrainLine.{TrainLine}
@@ -23,7 +23,7 @@ trainAddition T.Malformed = []
 trainAddition (T.Fields t) = Run.train t ∷ []
 
 unfoldable pub lineAdditions : Kind → Line → List Addition
-lineAdditions kind torn = []
+lineAdditions kind unended = []
 lineAdditions Segment (ended line) = segmentAddition (segmentOf line)
 lineAdditions Train (ended line) = trainAddition (trainOf line)
 
@@ -39,7 +39,7 @@ bodyAdditions (counts cs) xs = linesAdditions (kindsOf cs) xs
 
 abbrev pub additionsIn : Limits → List Line → List Addition
 additionsIn l [] = []
-additionsIn l (torn ∷ xs) = []
+additionsIn l (unended ∷ xs) = []
 additionsIn l (ended line ∷ xs) = bodyAdditions (contentsOf l line) xs
 
 unfoldable pub additionsOf : Limits → List ℕ → List Addition

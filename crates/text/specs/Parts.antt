@@ -16,7 +16,7 @@ use Rattle.study.specs.Add.{Limits, ours, segmentAnswer, trainAnswer}
 use Rattle.text.specs.Numbers.{numbersOf}
 use Rattle.text.specs.Contents.{Read, refused, counts, countsIn, inAll}
 use Rattle.text.specs.Lines.{segmentOf, trainOf}
-use Rattle.text.specs.Text.{Line, ended, torn, linesOf}
+use Rattle.text.specs.Text.{Line, ended, unended, linesOf}
 use Rattle.text.specs.declared.contents.Natural.{Natural}
 use Rattle.text.specs.declared.contents.Natural.the-variants as L
 use Rattle.text.specs.declared.contents.Count.{Count}
@@ -84,7 +84,7 @@ pub record Found {A : Type 0} (read : List ℕ → A) (answers : A → Check) (f
 -- what the first line answers: there is none, no line feed ends it, or its fields answer
 unfoldable pub firstAnswer : {A : Type 0} → (List ℕ → A) → (A → Check) → List Line → Check
 firstAnswer read answers [] = Refused Contents
-firstAnswer read answers (torn ∷ xs) = Refused Form
+firstAnswer read answers (unended ∷ xs) = Refused Form
 firstAnswer read answers (ended line ∷ xs) = answers (read line)
 
 abbrev pub SegmentAt : ℕ → List ℕ → ℕ → SegmentStep → Type 0

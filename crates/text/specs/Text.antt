@@ -25,12 +25,12 @@ use Rattle.text.specs.declared.Reading.{Reading}
 -- "a line feed after each line": a line that one ends, without it; or bytes at the end of the text that none ends
 pub data Line : Type 0 where
   ended : List ℕ → Line
-  torn : Line
+  unended : Line
 
 -- what stands after the last line feed is no line where it is empty
 abbrev pub lastLine : List ℕ → List Line
 lastLine [] = []
-lastLine (b ∷ bs) = torn ∷ []
+lastLine (b ∷ bs) = unended ∷ []
 
 unfoldable pub linesIn : List (List ℕ) → List Line
 linesIn [] = []
@@ -56,20 +56,20 @@ kindsOf [] = []
 kindsOf (c ∷ cs) = Segment ∷ trains c (kindsOf cs)
 
 -- what a line adds to a study. "Within a line 12 precedes all else": all its numbers are read before the addition judges any
-abbrev pub turnedBack : Study → Refusal → Added
-turnedBack st r = record { check = Refused r; study = st }
+abbrev pub refusedAddition : Study → Refusal → Added
+refusedAddition st r = record { check = Refused r; study = st }
 
 abbrev pub segmentAdds : Limits → Study → SegmentLine → Added
-segmentAdds l st S.Malformed = turnedBack st Form
+segmentAdds l st S.Malformed = refusedAddition st Form
 segmentAdds l st (S.Fields s) = addSegment l st s
 
 abbrev pub trainAdds : Limits → Study → TrainLine → Added
-trainAdds l st T.Malformed = turnedBack st Form
+trainAdds l st T.Malformed = refusedAddition st Form
 trainAdds l st (T.Fields t) = addTrain l st t
 
 -- "bytes at the end without a line feed are a line of wrong form", whatever they are
 unfoldable pub addLine : Limits → Kind → Study → Line → Added
-addLine l kind st torn = turnedBack st Form
+addLine l kind st unended = refusedAddition st Form
 addLine l Segment st (ended line) = segmentAdds l st (segmentOf line)
 addLine l Train st (ended line) = trainAdds l st (trainOf line)
 
@@ -101,7 +101,7 @@ readBody l (counts cs) xs = readLines l emptyStudy 2 (kindsOf cs) xs
 -- "The empty text is 13 at line 1"
 abbrev pub readFrom : Limits → List Line → Reading
 readFrom l [] = refusedAt Contents 1
-readFrom l (torn ∷ xs) = refusedAt Form 1
+readFrom l (unended ∷ xs) = refusedAt Form 1
 readFrom l (ended line ∷ xs) = readBody l (contentsOf l line) xs
 
 -- "At most 16,384 bytes; more is 12 at line 0". 20 to 24 never come from a text (`text-refusal-is-own` of proofs/Refusals.antt)

@@ -55,7 +55,7 @@ fn count_numbers(line: &[u8], start: usize) -> Count
 }
 
 // The contents that are refused.
-fn turned_back(refusal: Refusal) -> Contents
+fn refused_contents(refusal: Refusal) -> Contents
     ensures { λ r. ⌜ ContentsRead (refused refusal) r ⌝ }
 {
     Contents {
@@ -76,13 +76,13 @@ fn counts_from(line: &[u8], start: usize, n: usize) -> Contents
     let mut i = 0;
     while i < n {
         let Number::Value(v, next) = number_at(line, at) else {
-            return turned_back(Refusal::Contents);
+            return refused_contents(Refusal::Contents);
         };
         let Natural::Value(c) = to_natural(v) else {
-            return turned_back(Refusal::Contents);
+            return refused_contents(Refusal::Contents);
         };
         if MOST_ENTRIES < c {
-            return turned_back(Refusal::Contents);
+            return refused_contents(Refusal::Contents);
         }
         list[i] = c;
         sum += c;
@@ -90,10 +90,10 @@ fn counts_from(line: &[u8], start: usize, n: usize) -> Contents
         i += 1;
     }
     if sum == 0 {
-        return turned_back(Refusal::Contents);
+        return refused_contents(Refusal::Contents);
     }
     if MOST_ENTRIES < sum {
-        return turned_back(Refusal::Contents);
+        return refused_contents(Refusal::Contents);
     }
     Contents {
         check: Check::Accepted,
@@ -107,22 +107,22 @@ pub(crate) fn contents_of(line: &[u8]) -> Contents
     ensures { λ r. ⌜ ContentsRead (contentsOf ours (now (line .entry))) r ⌝ }
 {
     let Number::Value(v, next) = number_at(line, 0) else {
-        return turned_back(Refusal::Form);
+        return refused_contents(Refusal::Form);
     };
     let Count::Numbers(n) = count_numbers(line, next) else {
-        return turned_back(Refusal::Form);
+        return refused_contents(Refusal::Form);
     };
     let Natural::Value(first) = to_natural(v) else {
-        return turned_back(Refusal::Form);
+        return refused_contents(Refusal::Form);
     };
     if first != n {
-        return turned_back(Refusal::Form);
+        return refused_contents(Refusal::Form);
     }
     if n == 0 {
-        return turned_back(Refusal::Contents);
+        return refused_contents(Refusal::Contents);
     }
     if MOST_SEGMENTS < n {
-        return turned_back(Refusal::Contents);
+        return refused_contents(Refusal::Contents);
     }
     counts_from(line, next, n)
 }

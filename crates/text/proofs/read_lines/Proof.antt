@@ -7,7 +7,7 @@ use lib.ListN.{length, drop}
 use Rattle.study.specs.Plan.{emptyStudy}
 use Rattle.study.specs.Add.{ours, withSegment}
 use Rattle.study.proofs.Additions.{segment-taken, train-taken}
-use Rattle.study.proofs.Demand3.{ours-roomy}
+use Rattle.study.proofs.Demand3.{ours-fit}
 use Rattle.text.specs.Text.{trains, kindsOf}
 use Rattle.text.proofs.Places.{segment-found, train-found}
 use Rattle.text.proofs.Rest.{Rest, rest-segment, rest-none, rest-trains, rest-train, rest-after, rest-next, rest-refused, rest-over, segmentReader, trainReader}
@@ -92,7 +92,7 @@ returns c =
 returns-2 : tie.Need-returns-2 Inv-loop μ-loop Inv-reading μ-reading
 returns-2 c =
     let l = c .before .before .before .before in
-    c .accepted .ensures ∙ rest-listed ours-roomy (rest-none (l .reading .s) (l .reading .inv .1) (omega arith)) (omega arith) (c .before .study-of .ensures)
+    c .accepted .ensures ∙ rest-listed ours-fit (rest-none (l .reading .s) (l .reading .inv .1) (omega arith)) (omega arith) (c .before .study-of .ensures)
 
 returns-3 : tie.Need-returns-3 Inv-loop μ-loop Inv-reading μ-reading
 returns-3 c =

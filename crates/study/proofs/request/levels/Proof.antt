@@ -16,15 +16,15 @@ returns c =
     let start = c .before .before .before in
     let st = start .args .study in
     let count = plan-total st (start .good .0) (c .before .before .at-most .ensures) in
-    refused-answer st (few-entries st (start .good .0)) (start .args .cells .now) NoEntry (c .turned-back .result) (no-entries (planOf st) _ (sym count ∙ c .before .if1 .taken)) (c .turned-back .ensures)
+    refused-answer st (few-entries st (start .good .0)) (start .args .cells .now) NoEntry (c .refusal-answer .result) (no-entries (planOf st) _ (sym count ∙ c .before .if1 .taken)) (c .refusal-answer .ensures)
 
 returns-2 : tie.Need-returns-2
 returns-2 c =
     let start = c .before .before .before .before in
     let st = start .args .study in
     let count = plan-total st (start .good .0) (c .before .before .before .at-most .ensures) in
-    refused-answer st (few-entries st (start .good .0)) (start .args .cells .now) FewCells (c .turned-back2 .result)
-    (few-cells (planOf st) (length (start .args .cells .now)) (λ e. c .before .before .if1 .left (count ∙ e)) (omega (arith, count, c .before .if2 .taken))) (c .turned-back2 .ensures)
+    refused-answer st (few-entries st (start .good .0)) (start .args .cells .now) FewCells (c .refusal-answer2 .result)
+    (few-cells (planOf st) (length (start .args .cells .now)) (λ e. c .before .before .if1 .left (count ∙ e)) (omega (arith, count, c .before .if2 .taken))) (c .refusal-answer2 .ensures)
 
 answered-requires : tie.Need-answered-requires
 answered-requires c κs =

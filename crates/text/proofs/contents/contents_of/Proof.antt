@@ -43,12 +43,12 @@ natural c = natural-is (v (one (two c))) (one (two c) .known-told .given .0 .1) 
 returns : tie.Need-returns
 returns c =
     same-contents (contents-wrong (c .before .before .before .before .before .args .line .now) (sym (c .before .before .before .number-at .ensures) ∙ c .before .enum-told .given .1))
-    (c .turned-back .ensures)
+    (c .refused-contents .ensures)
 
 returns-2 : tie.Need-returns-2
 returns-2 c =
     let k = c .before .before .before .before in
-    same-contents (contents-malformed (line k) (v k) (next k) (first k) (sym (c .before .before .before .count-numbers .ensures) ∙ c .before .enum-told2 .given .1)) (c .turned-back2 .ensures)
+    same-contents (contents-malformed (line k) (v k) (next k) (first k) (sym (c .before .before .before .count-numbers .ensures) ∙ c .before .enum-told2 .given .1)) (c .refused-contents2 .ensures)
 
 returns-3 : tie.Need-returns-3
 returns-3 c =
@@ -56,22 +56,22 @@ returns-3 c =
     same-contents
     (contents-negative (line k) (v k) (next k) (first k) _ (others m)
     (natural-is (v k) (k .known-told .given .0 .1) (c .before .before .before .to-natural .ensures) (c .before .enum-told3 .given .1)))
-    (c .turned-back3 .ensures)
+    (c .refused-contents3 .ensures)
 
 returns-4 : tie.Need-returns-4
 returns-4 c =
     let f = c .before .before in let k = one (two f) in
-    same-contents (contents-other (line k) (v k) (next k) (first k) _ (others (two f)) _ (natural f) (c .before .if1 .taken)) (c .turned-back4 .ensures)
+    same-contents (contents-other (line k) (v k) (next k) (first k) _ (others (two f)) _ (natural f) (c .before .if1 .taken)) (c .refused-contents4 .ensures)
 
 returns-5 : tie.Need-returns-5
 returns-5 c =
     let f = c .before .before .before in let k = one (two f) in
-    same-contents (contents-none (line k) (v k) (next k) (first k) _ (others (two f)) _ (natural f) (c .before .before .if1 .left) (c .before .if2 .taken)) (c .turned-back5 .ensures)
+    same-contents (contents-none (line k) (v k) (next k) (first k) _ (others (two f)) _ (natural f) (c .before .before .if1 .left) (c .before .if2 .taken)) (c .refused-contents5 .ensures)
 
 returns-6 : tie.Need-returns-6
 returns-6 c =
     let f = c .before .before .before .before in let k = one (two f) in
-    same-contents (contents-many (line k) (v k) (next k) (first k) _ (others (two f)) _ (natural f) (c .before .before .before .if1 .left) (c .before .if3 .taken)) (c .turned-back6 .ensures)
+    same-contents (contents-many (line k) (v k) (next k) (first k) _ (others (two f)) _ (natural f) (c .before .before .before .if1 .left) (c .before .if3 .taken)) (c .refused-contents6 .ensures)
 
 returns-7 : tie.Need-returns-7
 returns-7 c =

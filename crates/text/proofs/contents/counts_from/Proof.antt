@@ -39,19 +39,19 @@ returns : tie.Need-returns Inv-loop μ-loop
 returns c =
     same-contents
     (entries-wrong (c .before .before .before .before .before .loop .inv .1) (omega arith) (sym (c .before .before .before .number-at .ensures) ∙ c .before .enum-told .given .1))
-    (c .turned-back .ensures)
+    (c .refused-contents .ensures)
 
 returns-2 : tie.Need-returns-2 Inv-loop μ-loop
 returns-2 c =
     let k = c .before .before .before .before in
     same-contents
     (entries-below (head k .loop .inv .1) _ _ (read k) (natural-is (k .before .v .given .0 .0) (k .known-told .given .0 .1) (c .before .before .before .to-natural .ensures) (c .before .enum-told2 .given .1)))
-    (c .turned-back2 .ensures)
+    (c .refused-contents2 .ensures)
 
 returns-3 : tie.Need-returns-3 Inv-loop μ-loop
 returns-3 c =
     let m = c .before .before in
-    same-contents (entries-over (head (one m) .loop .inv .1) _ _ (read (one m)) _ (natural m) (c .before .if1 .taken)) (c .turned-back3 .ensures)
+    same-contents (entries-over (head (one m) .loop .inv .1) _ _ (read (one m)) _ (natural m) (c .before .if1 .taken)) (c .refused-contents3 .ensures)
 
 loop-again : tie.Need-loop-again Inv-loop μ-loop
 loop-again c =
@@ -59,10 +59,10 @@ loop-again c =
     (omega arith, entries-next (head (one m) .loop .inv .1) _ _ (read (one m)) _ (omega arith) (omega arith) (natural m) (c .if1 .left))
 
 returns-4 : tie.Need-returns-4 Inv-loop μ-loop
-returns-4 c = same-contents (entries-zero (c .before .before .before .loop .inv .1) (omega arith) (c .before .if2 .taken)) (c .turned-back4 .ensures)
+returns-4 c = same-contents (entries-zero (c .before .before .before .loop .inv .1) (omega arith) (c .before .if2 .taken)) (c .refused-contents4 .ensures)
 
 returns-5 : tie.Need-returns-5 Inv-loop μ-loop
-returns-5 c = same-contents (entries-many (c .before .before .before .before .loop .inv .1) (omega arith) (c .before .if3 .taken)) (c .turned-back5 .ensures)
+returns-5 c = same-contents (entries-many (c .before .before .before .before .loop .inv .1) (omega arith) (c .before .if3 .taken)) (c .refused-contents5 .ensures)
 
 returns-6 : tie.Need-returns-6 Inv-loop μ-loop
 returns-6 c = entries-good (c .before .before .before .loop .inv .1) (omega arith) (search needs) (c .if3 .left) (search needs)

@@ -1,0 +1,13 @@
+-- `study::request::refusal_answer` meets its contract.
+-- Assumes nothing.
+use mathlib.Core.Path.{refl}
+use Rattle.study.specs.Request.{refusedBy}
+use Rattle.study.proofs.request.refusal_answer.Statement.{statement}
+use Rattle.study.proofs.request.refusal_answer.Tie as tie
+
+returns : tie.Need-returns
+unfolding refusedBy
+returns c = refl
+
+pub refusal-answer-spec : {M : Type 1} → statement M
+refusal-answer-spec = tie.close (tie.spec returns)
