@@ -2,6 +2,7 @@
 -- Assumes nothing.
 use mathlib.Core.Path.{_≡_, subst}
 use mathlib.Core.Bool.{true, false}
+use Prim.Native.Nat.{_≤_}
 use native.Mathlib.Omega.{arith}
 use borrow.Author.Tests.{ltb-true, ltb-false}
 use lib.Dec.{T, lit<}
@@ -23,11 +24,12 @@ pub record Unsigned (z : ℤ) : Type 0 where
   pub fits : SFits w32 z
   pub whole : T (nonNeg z)
   pub unsigned : Fits w64 (natAbs z)
+  pub small : natAbs z ≤ 1000000
 
 pub opposite : (z : ℤ) → Below 1000000 z → ltZ z (pos 0) ≡ true → Unsigned (pos 0 -ℤ z)
 opposite (pos n) b e = absurd (omega (arith, ltb-true n 0 e))
-opposite (negsuc n) b e = record { fits = record { sfits = omega (arith, b .least) }; whole = tt; unsigned = record { fits = omega (arith, b .least) } }
+opposite (negsuc n) b e = record { fits = record { sfits = omega (arith, b .least) }; whole = tt; unsigned = record { fits = omega (arith, b .least) }; small = omega (arith, b .least) }
 
 pub same : (z : ℤ) → Below 1000000 z → ltZ z (pos 0) ≡ false → Unsigned z
-same (pos n) b e = record { fits = record { sfits = omega (arith, b .most) }; whole = tt; unsigned = record { fits = omega (arith, b .most) } }
+same (pos n) b e = record { fits = record { sfits = omega (arith, b .most) }; whole = tt; unsigned = record { fits = omega (arith, b .most) }; small = omega (arith, b .most) }
 same (negsuc n) b e = absurd (subst T e tt)

@@ -1,9 +1,9 @@
--- `readings::show::difference` meets its contract.
+-- `readings::number::difference` meets its contract.
 -- Assumes nothing.
 use borrow.Author.Needs.{needs}
 use Rattle.steps.proofs.Lengths.{sum-fits, below-neg, below-read}
-use Rattle.readings.proofs.show.difference.Statement.{statement}
-use Rattle.readings.proofs.show.difference.Tie as tie
+use Rattle.readings.proofs.number.difference.Statement.{statement}
+use Rattle.readings.proofs.number.difference.Tie as tie
 
 clipped-requires : tie.Need-clipped-requires
 clipped-requires c κs = search needs

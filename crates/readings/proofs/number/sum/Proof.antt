@@ -1,9 +1,9 @@
--- `readings::show::sum` meets its contract.
+-- `readings::number::sum` meets its contract.
 -- Assumes nothing.
 use borrow.Author.Needs.{needs}
 use Rattle.steps.proofs.Lengths.{sum-fits, below-read}
-use Rattle.readings.proofs.show.sum.Statement.{statement}
-use Rattle.readings.proofs.show.sum.Tie as tie
+use Rattle.readings.proofs.number.sum.Statement.{statement}
+use Rattle.readings.proofs.number.sum.Tie as tie
 
 clipped-requires : tie.Need-clipped-requires
 clipped-requires c κs = search needs

@@ -1,8 +1,8 @@
--- `readings::show::clipped` meets its contract.
+-- `readings::number::clipped` meets its contract.
 -- Assumes nothing.
 use Rattle.readings.proofs.Near.{zero-below, tested-below}
-use Rattle.readings.proofs.show.clipped.Statement.{statement}
-use Rattle.readings.proofs.show.clipped.Tie as tie
+use Rattle.readings.proofs.number.clipped.Statement.{statement}
+use Rattle.readings.proofs.number.clipped.Tie as tie
 
 returns : tie.Need-returns
 returns c = zero-below
