@@ -19,8 +19,10 @@ PLACES = {
     "speed": 212, "rolling": 213, "vehicles": 214, "trains by day": 215, "trains by night": 216, "trains": 217,
     "sum": 218, "total": 219, "day": 220, "day whole": 221, "day close": 222, "day met": 223, "total whole": 250,
     "night": 230, "night whole": 231, "night close": 232, "night met": 233, "refusal": 240, "line": 241,
+    "added segment": 242, "added train": 243, "request": 244,
 }
-WHOLE = [PLACES[p] for p in ("delta", "total whole", "day whole", "day close", "night whole", "night close", "refusal", "line")]
+WHOLE = [PLACES[p] for p in ("delta", "total whole", "day whole", "day close", "night whole", "night close", "refusal", "line",
+                           "added segment", "added train", "request")]
 FLAGS = [PLACES[p] for p in ("mark", "day met", "night met")]
 # The sums that the memorandum prints, by the steps that it adds; a minus marks what is taken away again.
 SUMS = {
@@ -92,6 +94,14 @@ def refused(item):
     text(item["text"])
     reading("refusal", item["name"] + " refusal", item["number"])
     reading("line", item["name"] + " line", item["line"])
+
+
+def additions(item):
+    """A study by additions, and what the last segment, the last train and the request are refused with."""
+    numbers("a", item["numbers"])
+    reading("added segment", item["name"] + ": segment refused", item["segment"])
+    reading("added train", item["name"] + ": train refused", item["train"])
+    reading("request", item["name"] + ": levels refused", item["request"])
 
 
 def results(name, item):
@@ -207,6 +217,9 @@ def main():
         edge(item)
     for item in DATA["refusals"]:
         refused(item)
+    remark("Refusals by the study's condition, which never come from a text; 0 where nothing is refused.")
+    for item in DATA["additions"]:
+        additions(item)
     for item in DATA["studies"]:
         text(item["text"])
         results(item["name"], item)

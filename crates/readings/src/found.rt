@@ -4,11 +4,13 @@ use crate::number::difference;
 use crate::number::flag;
 use crate::number::longer;
 use crate::number::magnitude;
+use crate::number::natural;
 use crate::number::signed;
 use crate::number::slant;
 use crate::number::sum;
 use crate::number::whole;
 use decibel::Level;
+use steps::Check;
 use steps::Period;
 use steps::Segment;
 use steps::Train;
@@ -187,4 +189,82 @@ pub(crate) fn text(n: usize, body: &[u8], cells: &mut [i32; 256]) -> bool {
     store([number, line, 0, 0, 0, 0], 240, cells);
     results(reading.study, cells);
     n == 1
+}
+
+// A segment that keeps its lines but perhaps for its distance.
+fn plain_segment(distance: i32, cells: &mut [i32; 256]) -> Segment {
+    store([distance, 0, 0, 0, 180, 180], 0, cells);
+    store([0; 6], 6, cells);
+    store([0; 6], 12, cells);
+    segment_from(cells)
+}
+
+// A train that keeps its lines but perhaps for its row.
+fn plain_train(row: i32, cells: &mut [i32; 256]) -> Train {
+    store([row, 100, 1, 1, 1, 0], 0, cells);
+    train_from(cells)
+}
+
+fn with_segments(start: Study, segment: Segment, n: usize) -> Study {
+    let mut study = start;
+    for _ in 0..n {
+        let added = study::add_segment(study, segment);
+        study = added.study;
+    }
+    study
+}
+
+fn with_trains(start: Study, train: Train, n: usize) -> Study {
+    let mut study = start;
+    for _ in 0..n {
+        let added = study::add_train(study, train);
+        study = added.study;
+    }
+    study
+}
+
+fn number_of(check: Check) -> i32 {
+    signed(steps::check_number(check) as u64)
+}
+
+// The refusal of the request for levels, with 3 cells or with all.
+fn request(study: Study, room: i32, cells: &mut [i32; 256]) -> i32 {
+    if room == 3 {
+        let mut few = [0i32; 3];
+        let answer = study::request::levels(study, &mut few);
+        let check = answer.check;
+        return number_of(check);
+    }
+    let answer = study::request::levels(study, cells);
+    let check = answer.check;
+    number_of(check)
+}
+
+// A study by additions: so many segments and one of another distance, so many trains and one of another row, then the request.
+pub(crate) fn additions(n: usize, cells: &mut [i32; 256]) -> bool {
+    let segments = natural(cells[0]);
+    let distance = cells[1];
+    let trains = natural(cells[2]);
+    let row = cells[3];
+    let room = cells[4];
+    let first = with_segments(study::empty(), plain_segment(1000, cells), segments);
+    let held = study::add_segment(first, plain_segment(distance, cells));
+    let second = with_trains(held.study, plain_train(1, cells), trains);
+    let full = study::add_train(second, plain_train(row, cells));
+    let segment_check = held.check;
+    let train_check = full.check;
+    let asked = request(full.study, room, cells);
+    store(
+        [
+            number_of(segment_check),
+            number_of(train_check),
+            asked,
+            0,
+            0,
+            0,
+        ],
+        242,
+        cells,
+    );
+    n == 5
 }

@@ -90,6 +90,7 @@ pub(crate) fn line(words: &[u8], body: &[u8], cells: &mut [i32; 256]) -> Outcome
         b'l' => found::total(n, cells),
         b'+' => found::sum_of(n, cells),
         b'x' => found::text(n, body, cells),
+        b'a' => found::additions(n, cells),
         _ => false,
     };
     if formed {

@@ -7,6 +7,8 @@
 //   l LEVELS                up to 96 levels in tenths, to be added
 //   + PLACES                the sum of what stands at some places; a negative place is taken away
 //   x BYTES                 the present study text, so many bytes, after this line
+//   a S D E R C             a study by additions: S segments and one of distance D, E trains and one of row R; levels asked with C cells,
+//                           3 or all
 //   r PLACE EXPECTED NAME   a reading in tenths: a place, what is expected there, and its name
 //   n PLACE EXPECTED NAME   a reading in whole numbers
 //   y PLACE EXPECTED NAME   a reading of yes, 1, or no, 0
@@ -22,6 +24,7 @@
 //   218 the last sum, 219 the last total of levels, 250 that total in whole decibels
 //   220 the day's level, 221 in whole decibels, 222 its close count, 223 its verdict; 230 to 233 the night's
 //   240 the text's refusal, 241 the line at fault
+//   242 the refusal of the last segment added, 243 of the last train, 244 of the request for levels
 mod found;
 mod line;
 mod number;
