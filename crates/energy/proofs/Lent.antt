@@ -17,7 +17,8 @@ use Rattle.decibel.proofs.Table.{at-every}
 use Rattle.decibel.proofs.Powers.{ten-pos}
 use Rattle.decibel.proofs.Greatest.{greatest-is}
 use Rattle.energy.specs.Mark.{weightOf, tenthsOf, beginOf, endOf, passedOf}
-use Rattle.energy.specs.Parts.{part, Values, Tabled, Tables, Bounded, heightAt, weightAt}
+use Rattle.decibel.specs.Tables.{part}
+use Rattle.energy.specs.Parts.{Values, Tabled, Tables, Bounded, heightAt, weightAt}
 use Rattle.energy.proofs.Weighing.{unit, weight-most, weight-cut, weight-none}
 use Rattle.energy.proofs.Cells.{weight-silent, weight-heard}
 use Rattle.energy.proofs.Thresholds.{begin-last, passed-is}

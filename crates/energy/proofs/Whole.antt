@@ -16,7 +16,8 @@ use Rattle.energy.specs.declared.Total.{Total}
 use Rattle.energy.specs.Energy.{bareAt}
 use Rattle.energy.specs.Total.{energies, totalBy, heard, TotalMark}
 use Rattle.energy.specs.Mark.{loudestOf, weighed, endOf, passedOf, totalMark, totalOf}
-use Rattle.energy.specs.Parts.{part, Tables, figureAt}
+use Rattle.decibel.specs.Tables.{part}
+use Rattle.energy.specs.Parts.{Tables, figureAt}
 use Rattle.energy.proofs.Weighing.{unit}
 use Rattle.energy.proofs.Levels.{Kept, loudest-some, weighed-most}
 use Rattle.energy.proofs.Named.{total-figure, total-allowed}

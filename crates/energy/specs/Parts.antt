@@ -5,11 +5,9 @@ use mathlib.Core.List.{List, [], _∷_}
 use Prim.Native.Nat.{ℕ, _+_, _-_, _^_, _≤_, _<_}
 use lib.IntN.{ℤ, pos, _-ℤ_}
 use lib.ListN.{length, getD, take, drop}
+use Rattle.decibel.specs.Tables.{part}
 use Rattle.energy.specs.Total.{heard}
 use Rattle.energy.specs.Mark.{loudestOf, weightOf, weighed, beginOf, endOf}
-
-abbrev pub part : ℕ → ℕ → List ℕ → List ℕ
-part a e xs = take (e - a) (drop a xs)
 
 -- each entry of a list is the value of a formula at its place
 pub record Values (g : ℕ → ℕ) (count : ℕ) (xs : List ℕ) : Type 0 where

@@ -23,12 +23,8 @@ use Rattle.decibel.proofs.Attenuation.{scaledLog, negative-low, negative-high, 
 use Rattle.steps.specs.declared.Segment.{Segment}
 use Rattle.steps.specs.Rules.{unscreened}
 use Rattle.steps.specs.Step.{groundFactor, grounded, groundFence, screenFence, pathFence}
-use Rattle.steps.specs.Ground.{GroundMarkBy, GroundMark, GroundSettledBy, GroundSettled, attenuation, groundMark}
+use Rattle.steps.specs.Ground.{isClose, GroundMarkBy, GroundMark, GroundSettledBy, GroundSettled, attenuation, groundMark}
 use Rattle.steps.specs.Parts.{Ranges}
-
--- the mark of an attenuation of a microdecibels
-abbrev pub isClose : ℕ → Bool
-isClose a = leb 48500 (a % 100000) && leb (a % 100000) 51500
 
 close-within : (a : ℕ) → 48500 ≤ a % 100000 → a % 100000 ≤ 51500 → isClose a ≡ true
 close-within a l h = rw (le-leb 48500 (a % 100000) l, le-leb (a % 100000) 51500 h) refl

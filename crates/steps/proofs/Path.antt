@@ -25,12 +25,12 @@ use Rattle.steps.specs.declared.Segment.{Segment}
 use Rattle.steps.specs.Geometry.{inShadow, pathDifference}
 use Rattle.steps.specs.Rules.{unscreened}
 use Rattle.steps.specs.Step.{groundFactor, grounded, groundFence, screenFormula, screenFence, pathFence}
-use Rattle.steps.specs.Ground.{attenuation, groundMark}
+use Rattle.steps.specs.Ground.{isClose, attenuation, groundMark}
 use Rattle.steps.specs.Parts.{Below, Ranges, Tenths}
 use Rattle.steps.specs.Path.{PathTenths}
 use Rattle.steps.proofs.Figures.{tenths-of, tenths-by, tenths-read}
 use Rattle.steps.proofs.Ranged.{read, natural-below, cast-below, read-up, returned}
-use Rattle.steps.proofs.Marks.{isClose, factor-most, far-tenths-are}
+use Rattle.steps.proofs.Marks.{factor-most, far-tenths-are}
 
 -- ---- the screen
 

@@ -35,9 +35,13 @@ GroundSettled s mark r = GroundSettledBy (grounded s) s mark r
 unfoldable pub attenuation : Segment → ℕ
 attenuation s = (fineLogAt (4 * up (s .distance)) - 40000000) * groundFactor s / 10000000
 
--- the program's own mark: that attenuation lies at most 0.0015 dB from a tie (`ground-mark-allowed` of proofs/Marks.antt: it is a `GroundMark`)
+-- so many microdecibels lie at most 0.0015 dB from a tie
+abbrev pub isClose : ℕ → Bool
+isClose a = leb 48500 (a % 100000) && leb (a % 100000) 51500
+
+-- the program's own mark: that attenuation lies so close (`ground-mark-allowed` of proofs/Marks.antt: it is a `GroundMark`)
 unfoldable pub groundMark : Segment → Bool
-groundMark s = cond (grounded s) (leb 48500 (attenuation s % 100000) && leb (attenuation s % 100000) 51500) false
+groundMark s = cond (grounded s) (isClose (attenuation s)) false
 
 -- the marks that 01 allows a segment: its ground step's, and none where the segment is refused
 unfoldable pub SegmentMarkBy : Bool → Segment → Bool → Type 0

@@ -10,7 +10,7 @@ ghost use Rattle.decibel.specs.Round.{nearest};
 ghost use Rattle.steps.specs.declared.Check.the-variants.{Accepted};
 ghost use Rattle.steps.specs.Rules.{unscreened, segmentCheck};
 ghost use Rattle.steps.specs.Step.{distanceFence, airFence, groundFactor, screenFormula, screenFence, angleFence, oppositeFence, facadeTenths};
-ghost use Rattle.steps.specs.Ground.{attenuation, SegmentMark};
+ghost use Rattle.steps.specs.Ground.{attenuation, isClose, SegmentMark};
 ghost use Rattle.steps.specs.Entry.{readings, propagationOf};
 ghost use Rattle.steps.specs.Parts.{Below, Ranges, Tenths, Propagates};
 ghost use Rattle.steps.specs.Path.{Exactly, RootUp, View, PathTenths, Along};
@@ -126,7 +126,7 @@ fn ground_tenths(a: u64) -> i32
 
 // The ground's close mark: at most 0.0015 dB from a tie.
 fn is_close(a: u64) -> bool
-    ensures { λ r. ⌜ r ≡ (leb 48500 (a % 100000) && leb (a % 100000) 51500) ⌝ }
+    ensures { λ r. ⌜ r ≡ isClose a ⌝ }
 {
     let rest = a % 100000;
     (48500 <= rest) & (rest <= 51500)
