@@ -26,7 +26,7 @@ instructions() {
 }
 
 printf '%-8s %12s %12s %8s\n' instr product plain ratio
-for study in full small refused; do
+for study in full eight small refused; do
     for who in product plain; do
         once=$(instructions "$who" "$study" 1)
         more=$(instructions "$who" "$study" 11)

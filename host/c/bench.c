@@ -1,7 +1,7 @@
 /* Speed and stack of railnoise_levels beside the plain program.
  *
  *   bench time [ROUNDS]                        nanoseconds of one call, by study, and their ratio
- *   bench call product|plain full|small|refused COUNT    COUNT calls, for an instruction counter
+ *   bench call product|plain full|eight|small|refused COUNT    COUNT calls, for an instruction counter
  *   bench stack                                bytes of stack that one call reaches
  */
 #define _GNU_SOURCE
@@ -17,16 +17,16 @@
 
 typedef railnoise_answer levels_function(const uint8_t *, size_t, int32_t *, size_t);
 
-enum { FULL, SMALL, REFUSED, STUDIES };
-static const char *const study_names[STUDIES] = { "full", "small", "refused" };
+enum { FULL, EIGHT, SMALL, REFUSED, STUDIES };
+static const char *const study_names[STUDIES] = { "full", "eight", "small", "refused" };
 static char texts[STUDIES][RAILNOISE_TEXT_LIMIT];
 static size_t lengths[STUDIES];
 
-/* 24 segments, every second one screened, and 96 trains; the last train's speed as given. */
-static size_t write_full(char *text, int last_speed)
+/* So many segments, every second one screened, with so many trains each; the last train's speed as given. */
+static size_t write_study(char *text, int segments, int entries, int last_speed)
 {
-    char *at = put_full_contents(text);
-    for (int i = 0; i < 24; i++) {
+    char *at = put_contents(text, segments, entries);
+    for (int i = 0; i < segments; i++) {
         int d = 4000 + 1013 * i, view = 20 + 6 * i;
         if (i % 2 == 0)
             at += sprintf(at, "%d %d %d %d %d %d 0 0 0 0 10 -15 1 %d\n", d, 330 - 20 * i, 150 + 17 * i, i % 11, view,
@@ -34,8 +34,8 @@ static size_t write_full(char *text, int last_speed)
         else
             at += sprintf(at, "%d %d 235 0 %d %d 2 500 %d 38 10 0 1 %d\n", d, 330 - 20 * i, view, view + 5, 100 + 2 * i,
                           view / 3);
-        for (int k = 0; k < 4; k++) {
-            int speed = i == 23 && k == 3 ? last_speed : 40 + 2 * i + 40 * k;
+        for (int k = 0; k < entries; k++) {
+            int speed = i == segments - 1 && k == entries - 1 ? last_speed : 40 + 2 * i + 40 * k;
             at += sprintf(at, "%d %d %d %d %d\n", 1 + (4 * i + k) % 34, speed, 1 + (7 * i + k) % 60, 3 + 20 * i + 5 * k,
                           1 + 3 * i);
         }
@@ -45,10 +45,11 @@ static size_t write_full(char *text, int last_speed)
 
 static void write_texts(void)
 {
-    lengths[FULL] = write_full(texts[FULL], 150);
+    lengths[FULL] = write_study(texts[FULL], 24, 4, 150);
+    lengths[EIGHT] = write_study(texts[EIGHT], 4, 2, 150);
     memcpy(texts[SMALL], sample, sizeof sample - 1);
     lengths[SMALL] = sizeof sample - 1;
-    lengths[REFUSED] = write_full(texts[REFUSED], 301);
+    lengths[REFUSED] = write_study(texts[REFUSED], 24, 4, 301);
 }
 
 static railnoise_answer call(levels_function *levels, int study)
@@ -61,7 +62,7 @@ static railnoise_answer call(levels_function *levels, int study)
 static void check_answers(levels_function *levels)
 {
     railnoise_answer refused = call(levels, REFUSED);
-    if (call(levels, FULL).refusal != 0 || call(levels, SMALL).day.level != 629 || refused.refusal != 9 ||
+    if (call(levels, FULL).refusal != 0 || call(levels, EIGHT).refusal != 0 || call(levels, SMALL).day.level != 629 || refused.refusal != 9 ||
         refused.line != 121) {
         fprintf(stderr, "bench: unexpected answers\n");
         exit(1);

@@ -499,7 +499,7 @@ static void test_no_state_refusals(void)
 /* 24 segments and 96 trains; each figure as wide as it can be. */
 static size_t full_study(char *text)
 {
-    char *at = put_full_contents(text);
+    char *at = put_contents(text, 24, 4);
     for (int i = 0; i < 24; i++) {
         at += sprintf(at, "30000 5000 5000 10 180 180 2 29900 -2000 100 150 0 1 180\n");
         for (int k = 0; k < 4; k++)

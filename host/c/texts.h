@@ -14,12 +14,12 @@ static const char sample[] =
     "10000 330 235 10 36 36 0 0 0 0 0 0 1 0\n"
     "1 150 10 179 13\n";
 
-/* Puts the contents line of a full study, 24 segments with 4 train entries each, and gives the place after it. */
-static inline char *put_full_contents(char *text)
+/* Puts the contents line of so many segments with so many train entries each, and gives the place after it. */
+static inline char *put_contents(char *text, int segments, int entries)
 {
-    char *at = text + sprintf(text, "24");
-    for (int i = 0; i < 24; i++)
-        at += sprintf(at, " 4");
+    char *at = text + sprintf(text, "%d", segments);
+    for (int i = 0; i < segments; i++)
+        at += sprintf(at, " %d", entries);
     *at++ = '\n';
     return at;
 }
