@@ -211,26 +211,28 @@ def on_purpose():
     counts["wrong"] += 1
 
 
+def every(kind, show):
+    for item in DATA[kind]:
+        show(item)
+
+
+def study(item):
+    text(item["text"])
+    results(item["name"], item)
+
+
 def main():
     remark("Readings around the edges, and the bounds of ground's mark.")
-    for item in DATA["edges"]:
-        edge(item)
-    for item in DATA["refusals"]:
-        refused(item)
+    every("edges", edge)
+    every("refusals", refused)
     remark("Refusals by the study's condition, which never come from a text; 0 where nothing is refused.")
-    for item in DATA["additions"]:
-        additions(item)
-    for item in DATA["studies"]:
-        text(item["text"])
-        results(item["name"], item)
+    every("additions", additions)
+    every("studies", study)
     remark("Totals by Chart 9: 60.0 with 60.0, and the levels that the memorandum prints.")
-    for item in DATA["totals"]:
-        total(item)
+    every("totals", total)
     remark("What a planner's own sheet gets wrong, and what is right.")
-    for item in DATA["mistakes"]:
-        mistake(item)
-    for item in DATA["examples"]:
-        example(item)
+    every("mistakes", mistake)
+    every("examples", example)
     on_purpose()
     told.append(f"{counts['readings']} readings, {counts['wrong']} wrong")
     files = {CRATE / "stdin": given, CRATE / "stdout": told}
