@@ -1,0 +1,56 @@
+-- The speed step: as the code takes it, its fence, how far it lies from zero.
+-- Assumes nothing.
+use mathlib.Core.Path.{_≡_, sym, _∙_, ap, subst}
+use Prim.Native.Nat.{ℕ, _+_, _*_, _≤_, _<_}
+use native.Mathlib.Nat.{le-trans, mul-le-mul}
+use native.Mathlib.Omega.{arith}
+use lib.Dec.{lit<, lit≤}
+use lib.IntN.{ℤ, pos, _+ℤ_}
+use mir.Syntax.{w32, w64}
+use mir.Val.{Fits, SFits}
+use Rattle.decibel.specs.Ints.{up}
+use Rattle.decibel.specs.Log.{AtLeast, fence}
+use Rattle.decibel.specs.Lookup.{tenLog, fenceAt, lowest, highest, tenthsAt, Tenth}
+use Rattle.decibel.specs.Round.{micro, nearest, IsFence}
+use Rattle.decibel.proofs.Round.{nearest-plus}
+use Rattle.decibel.proofs.Exact.{fence-is}
+use Rattle.decibel.proofs.Fences.{fence-square, fence-add}
+use Rattle.figures.specs.declared.Train.{Train}
+use Rattle.figures.specs.Rules.{leastSpeed, mostSpeed}
+use Rattle.figures.specs.Bounds.{Below, Signed, Exactly, TrainRanged}
+use Rattle.figures.proofs.Signs.{read, below-more, natural-below, summand, summed}
+use Rattle.figures.proofs.Tenths.{tenth-below, tenths-of}
+use Rattle.figures.proofs.Lies.{lies-fence}
+use Rattle.emission.specs.Speed.{countedSpeed, speedFence}
+
+-- twice the factor is the logarithm of the square
+speed-square : (v : ℕ) → 0 < v → fence 31200000 20000000 v 1 ≡ micro (pos 312) +ℤ fence 0 10000000 (v * v) 1
+unfolding micro
+speed-square v h = fence-square 31200000 10000000 v h ∙ sym (fence-add 31200000 0 10000000 (v * v) 1)
+
+module _ (t : Train) (g : TrainRanged t) {n : ℕ} (e : n ≡ up (t .speed)) where
+  pub square-fits : Fits w64 (n * n)
+  square-fits = let h : n ≤ mostSpeed = omega (arith, g .speed .most) in omega (arith, mul-le-mul h h)
+
+  module _ {x : ℤ} (a : Tenth (tenthsAt tenLog (n * n)) x) where
+    pub speed-fits : SFits w32 (read (pos 312) +ℤ read x)
+    speed-fits = summand {m = 313} {x = pos 312} (natural-below (lit< tt)) (tenth-below a) (lit≤ tt)
+
+    pub speed-is : Exactly (nearest (speedFence t)) (read (read (pos 312) +ℤ read x))
+    unfolding speedFence countedSpeed fenceAt lowest highest
+    speed-is =
+        let low : leastSpeed ≤ n = omega (arith, g .speed .least) in
+        let high : n ≤ mostSpeed = omega (arith, g .speed .most) in
+        let log = tenths-of tenLog (n * n) (le-trans (lit≤ tt) (mul-le-mul low low)) (le-trans (mul-le-mul high high) (lit≤ tt)) a in
+        let s = summed {m = 313} {x = pos 312} (natural-below (lit< tt)) (tenth-below a) (lit≤ tt) in
+        let is = sym (nearest-plus (pos 312) (fence 0 10000000 (n * n) 1)) ∙ ap nearest (sym (speed-square n (omega arith))) ∙ ap (λ (v : ℕ). nearest (fence 31200000 20000000 v 1)) e in
+        record { is = s .is ∙ ap (λ (y : ℤ). pos 312 +ℤ y) (log .is) ∙ is; small = below-more (lit≤ tt) (s .small) }
+
+module _ (t : Train) (g : TrainRanged t) where
+  pub speed-lies : Signed 0 91200000 (speedFence t)
+  unfolding speedFence countedSpeed
+  speed-lies = lies-fence 31200000 0 3 20000000 (up (t .speed)) 1 (omega (arith, g .speed .least)) (lit< tt) (omega (arith, g .speed .least)) (omega (arith, g .speed .most))
+
+  pub speed-fence : IsFence (AtLeast 31200000 20000000 (countedSpeed t) 1) (speedFence t)
+  unfolding speedFence countedSpeed
+  speed-fence = fence-is 31200000 20000000 (up (t .speed)) 1 (le-trans (lit≤ tt) (g .speed .least)) (lit< tt)

@@ -1,0 +1,6 @@
+pub mod Signs
+pub mod Squares
+pub mod Read
+pub mod Kept
+pub mod Tenths
+pub mod Lies

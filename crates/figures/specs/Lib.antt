@@ -1,0 +1,4 @@
+pub mod Refusal
+pub mod Geometry
+pub mod Rules
+pub mod Bounds

@@ -1,0 +1,152 @@
+-- The lines that a segment and a train entry keep (01, "The study"), each bound by its name, and the first line that is not kept (01, "Turned back
+-- for a figure"). Line 6 needs the screen's lengths and stands with the screen (crate propagation).
+-- Assumes nothing.
+use mathlib.Core.Bool.{Bool, _&&_, _||_}
+use Prim.Native.Nat.{ℕ}
+use lib.IntN.{ℤ, pos, negℤ, _+ℤ_}
+use lib.Signed.{leZ}
+use Rattle.figures.specs.declared.Segment.{Segment}
+use Rattle.figures.specs.declared.Train.{Train}
+use Rattle.figures.specs.declared.Refusal.the-variants.{Distance, Height, Ground, Angle, Screen, Row, Speed, Vehicles, Trains}
+use Rattle.figures.specs.declared.Check.{Check}
+use Rattle.figures.specs.declared.Check.the-variants.{Accepted}
+use Rattle.figures.specs.Refusal.{unless}
+
+-- ---- the bounds
+
+-- lengths in centimetres; `lowest` ones are so far below zero
+abbrev pub leastDistance : ℕ
+leastDistance = 1000
+
+abbrev pub mostDistance : ℕ
+mostDistance = 30000
+
+abbrev pub lowestWindow : ℕ
+lowestWindow = 5000
+
+abbrev pub highestWindow : ℕ
+highestWindow = 5000
+
+abbrev pub highestMean : ℕ
+highestMean = 5000
+
+-- from the screen to the source and to the window
+abbrev pub leastGap : ℕ
+leastGap = 100
+
+abbrev pub lowestTop : ℕ
+lowestTop = 2000
+
+abbrev pub highestTop : ℕ
+highestTop = 5000
+
+-- tenths of the ground
+abbrev pub mostSoft : ℕ
+mostSoft = 10
+
+-- angles in degrees
+abbrev pub leastView : ℕ
+leastView = 5
+
+abbrev pub widestAngle : ℕ
+widestAngle = 180
+
+-- readings in tenths of a decibel
+abbrev pub mostChart : ℕ
+mostChart = 100
+
+abbrev pub mostTrack : ℕ
+mostTrack = 150
+
+abbrev pub lowestBallast : ℕ
+lowestBallast = 30
+
+-- rows of Table A1.1, km/h, vehicles of a train, trains of a period
+abbrev pub mostRow : ℕ
+mostRow = 34
+
+abbrev pub leastSpeed : ℕ
+leastSpeed = 20
+
+abbrev pub mostSpeed : ℕ
+mostSpeed = 300
+
+abbrev pub mostVehicles : ℕ
+mostVehicles = 60
+
+abbrev pub mostTrains : ℕ
+mostTrains = 2000
+
+-- ---- the lines
+
+-- low to high
+abbrev pub within : ℤ → ℤ → ℤ → Bool
+within low high x = leZ low x && leZ x high
+
+-- 1: d
+unfoldable pub distanceKept : Segment → Bool
+distanceKept s = within (pos leastDistance) (pos mostDistance) (s .distance)
+
+-- 2: h and H
+unfoldable pub heightsKept : Segment → Bool
+heightsKept s = within (negℤ (pos lowestWindow)) (pos highestWindow) (s .height) && within (pos 0) (pos highestMean) (s .mean)
+
+-- 3: I
+unfoldable pub softKept : Segment → Bool
+softKept s = within (pos 0) (pos mostSoft) (s .soft)
+
+-- 4: θ and a
+unfoldable pub anglesKept : Segment → Bool
+anglesKept s = within (pos leastView) (pos widestAngle) (s .view) && within (s .view) (pos widestAngle) (s .doubled)
+
+-- there is no screen
+unfoldable pub unscreened : Segment → Bool
+unscreened s = within (pos 0) (pos 0) (s .screen)
+
+-- without a screen D, b and the Chart 6(c) reading are 0
+unfoldable pub unscreenedKept : Segment → Bool
+unscreenedKept s = within (pos 0) (pos 0) (s .setback) && (within (pos 0) (pos 0) (s .top) && within (pos 0) (pos 0) (s .chart))
+
+-- with one: D off source and window, b, the Chart 6(c) reading up to most, and no ballast
+unfoldable pub screenedKept : Segment → ℤ → Bool
+screenedKept s most =
+    (leZ (pos leastGap) (s .setback) && leZ (s .setback +ℤ pos leastGap) (s .distance))
+    && (within (negℤ (pos lowestTop)) (pos highestTop) (s .top) && (within (pos 0) most (s .chart) && within (pos 0) (pos 0) (s .ballast)))
+
+-- 5: fields 7 to 10 against their lines, and ballast with a screen. A Chart 6(c) reading needs a reflective screen
+unfoldable pub screenKept : Segment → Bool
+screenKept s =
+    (unscreened s && unscreenedKept s)
+    || ((within (pos 1) (pos 1) (s .screen) && screenedKept s (pos 0)) || (within (pos 2) (pos 2) (s .screen) && screenedKept s (pos mostChart)))
+
+-- the first of lines 1 to 5 that a segment does not keep, else what the later lines say
+unfoldable pub rangesThen : Segment → Check → Check
+rangesThen s later =
+    unless (distanceKept s) Distance (unless (heightsKept s) Height (unless (softKept s) Ground (unless (anglesKept s) Angle (unless (screenKept s) Screen later))))
+
+-- those lines alone
+unfoldable pub rangeCheck : Segment → Check
+rangeCheck s = rangesThen s Accepted
+
+-- 7: fields 11 to 14 in another way
+unfoldable pub readingsKept : Segment → Bool
+readingsKept s =
+    within (pos 0) (pos mostTrack) (s .track)
+    && (within (negℤ (pos lowestBallast)) (pos 0) (s .ballast) && (within (pos 0) (pos 1) (s .facade) && within (pos 0) (s .view) (s .opposite)))
+
+-- 8: row. 9: speed. 10: vehicles. 11: trains by day and by night
+unfoldable pub rowKept : Train → Bool
+rowKept t = within (pos 1) (pos mostRow) (t .row)
+
+unfoldable pub speedKept : Train → Bool
+speedKept t = within (pos leastSpeed) (pos mostSpeed) (t .speed)
+
+unfoldable pub vehiclesKept : Train → Bool
+vehiclesKept t = within (pos 1) (pos mostVehicles) (t .vehicles)
+
+unfoldable pub trainsKept : Train → Bool
+trainsKept t = within (pos 0) (pos mostTrains) (t .day) && within (pos 0) (pos mostTrains) (t .night)
+
+-- the first line that a train entry does not keep
+unfoldable pub trainCheck : Train → Check
+trainCheck t = unless (rowKept t) Row (unless (speedKept t) Speed (unless (vehiclesKept t) Vehicles (unless (trainsKept t) Trains Accepted)))

@@ -1,0 +1,11 @@
+pub mod Chain
+pub mod DistanceStep
+pub mod AirStep
+pub mod OppositeStep
+pub mod AngleRange
+pub mod AngleStep
+pub mod ScreenStep
+pub mod GroundMark
+pub mod GroundStep
+pub mod SegmentSum
+pub mod Fences

@@ -1,0 +1,243 @@
+-- A segment's parts and their sum: as the code makes them, the mark, how far the sum lies from its fence and from zero.
+-- Assumes nothing.
+use mathlib.Core.Path.{_≡_, refl, sym, _∙_, ap, ap₂, subst}
+use mathlib.Core.Bool.{Bool, true, false, cond}
+use Prim.Native.Nat.{ℕ, _+_, _≤_}
+use native.Mathlib.Omega.{arith}
+use lib.Dec.{lit<, lit≤}
+use lib.IntN.{ℤ, pos, _+ℤ_}
+use mir.Syntax.{w32}
+use mir.Val.{SFits}
+use Rattle.decibel.specs.Round.{micro, nearest, byMark, Near}
+use Rattle.decibel.proofs.Round.{near-nearest, near-mark, near-exact, near-add}
+use Rattle.figures.specs.declared.Segment.{Segment}
+use Rattle.figures.specs.declared.Refusal.{Refusal}
+use Rattle.figures.specs.declared.Check.{Check}
+use Rattle.figures.specs.declared.Check.the-variants.{Accepted, Refused}
+use Rattle.figures.specs.Refusal.{isAccepted}
+use Rattle.figures.specs.Rules.{within}
+use Rattle.figures.specs.Bounds.{Below, Signed, Exactly, ReadingsRanged}
+use Rattle.figures.proofs.Signs.{read, below-more, below-back, natural-below, from-below, signed-below, returned, exactly-read, Sum, summand, added, summed}
+use Rattle.figures.proofs.Lies.{lies-add, lies-within, lies-from, lies-micro}
+use Rattle.propagation.specs.declared.SegmentBreakdown.{SegmentBreakdown}
+use Rattle.propagation.specs.declared.Propagation.{Propagation}
+use Rattle.propagation.specs.Distance.{distanceFence}
+use Rattle.propagation.specs.Air.{airFence}
+use Rattle.propagation.specs.Angle.{angleFence}
+use Rattle.propagation.specs.Opposite.{oppositeFence}
+use Rattle.propagation.specs.Check.{segmentCheck}
+use Rattle.propagation.specs.Ground.{pathFence, groundMark, SegmentMark, SegmentMarkBy}
+use Rattle.propagation.specs.Propagation.{facadeTenths, segmentPartsBy, noSegmentParts, segmentBreakdownBy, segmentBreakdownOf, addedUp, propagationOf, segmentFence}
+use Rattle.propagation.specs.Results.{PartsBelow, SegmentParted, Propagates}
+use Rattle.propagation.specs.Private.{Ranges, PathTenths, Added}
+use Rattle.propagation.proofs.Chain.{ranges}
+use Rattle.propagation.proofs.DistanceStep.{distance-lies}
+use Rattle.propagation.proofs.AirStep.{air-lies}
+use Rattle.propagation.proofs.AngleRange.{angle-lies}
+use Rattle.propagation.proofs.OppositeStep.{opposite-lies}
+use Rattle.propagation.proofs.GroundMark.{ground-mark-allowed}
+use Rattle.propagation.proofs.GroundStep.{path-lies}
+
+-- ---- the facade
+
+pub facade-is : (s : Segment) {x b : Bool} → x ≡ within (pos 1) (pos 1) (read (s .facade)) → read (s .facade) ≡ s .facade → x ≡ b → cond b (pos 25) (pos 0) ≡ facadeTenths s
+unfolding facadeTenths
+facade-is s e f i = ap (λ (y : Bool). cond y (pos 25) (pos 0)) (sym i ∙ e ∙ ap (within (pos 1) (pos 1)) f)
+
+facade-lies : (s : Segment) → Signed 0 25 (facadeTenths s)
+unfolding facadeTenths
+facade-lies s = go (within (pos 1) (pos 1) (s .facade))
+  where
+    go : (b : Bool) → Signed 0 25 (cond b (pos 25) (pos 0))
+    go true = record { most = lit≤ tt; least = lit≤ tt }
+    go false = record { most = lit≤ tt; least = lit≤ tt }
+
+-- ---- the parts
+
+abbrev made : (distance air angle opposite path : ℤ) → Bool → (facade chart track ballast : ℤ) → SegmentBreakdown
+made d a v o p m f c t b = record { distance = d; air = a; angle = v; opposite = o; path = p; close = m; facade = f; chart = c; track = t; ballast = b }
+
+-- a figure as it is read is small
+figure-read : {v r : ℤ} → r ≡ v → Below 2000 v → Exactly v (read r)
+figure-read e b = returned (lit≤ tt) e (subst (Below 2000) (sym e) b)
+
+pub parts-are : (s : Segment) {p : Propagation} {d a v o f : ℤ} → Ranges s → PathTenths s p → Exactly (nearest (distanceFence s)) d → Exactly (nearest (airFence s)) a → Exactly (nearest (angleFence s)) v → Exactly (nearest (oppositeFence s)) o → f ≡ facadeTenths s → SegmentParted (segmentPartsBy s (groundMark s)) (made (read d) (read a) (read v) (read o) (read (p .tenths)) (p .close) (read f) (read (s .chart)) (read (s .track)) (read (s .ballast)))
+unfolding segmentPartsBy
+parts-are s {p} g q d a v o f =
+    let x = exactly-read d in
+    let y = exactly-read a in
+    let z = exactly-read v in
+    let w = exactly-read o in
+    let u = returned (lit≤ tt) (q .is) (q .small) in
+    let i = figure-read f (signed-below (lit< tt) (lit< tt) (facade-lies s)) in
+    let c = figure-read refl (from-below (lit< tt) (g .ranged .chart)) in
+    let t = figure-read refl (from-below (lit< tt) (g .readings .track)) in
+    let b = figure-read refl (signed-below (lit< tt) (lit< tt) (g .readings .ballast)) in
+    record {
+      is = rw (x .is, y .is, z .is, w .is, u .is, q .mark, i .is, c .is, t .is, b .is) refl;
+      small = record { distance = x .small; air = y .small; angle = z .small; opposite = w .small; path = u .small; facade = i .small; chart = c .small; track = t .small; ballast = b .small };
+    }
+
+module _ (s : Segment) where
+  pub accepted-breakdown : (mark : Bool) → segmentCheck s ≡ Accepted → segmentPartsBy s mark ≡ segmentBreakdownBy s mark
+  unfolding segmentBreakdownBy isAccepted
+  accepted-breakdown mark e = sym (rw e refl)
+
+  pub refused-breakdown : (mark : Bool) {k : Refusal} → segmentCheck s ≡ Refused k → noSegmentParts ≡ segmentBreakdownBy s mark
+  unfolding segmentBreakdownBy isAccepted
+  refused-breakdown mark e = sym (rw e refl)
+
+  -- 01 allows the program's own mark of every segment
+  own-mark-allowed : SegmentMark s (segmentBreakdownOf s .close)
+  unfolding SegmentMark SegmentMarkBy isAccepted segmentBreakdownOf segmentBreakdownBy segmentPartsBy noSegmentParts
+  own-mark-allowed = go (segmentCheck s) refl
+    where
+      go : (check : Check) → segmentCheck s ≡ check → SegmentMarkBy (isAccepted check) s (cond (isAccepted check) (segmentPartsBy s (groundMark s)) noSegmentParts .close)
+      go Accepted a = ground-mark-allowed s (ranges s a .ranged)
+      go (Refused r) a = refl
+
+  pub mark-allowed : {b : SegmentBreakdown} → SegmentParted (segmentBreakdownOf s) b → SegmentMark s (b .close)
+  mark-allowed {b} p = rw (p .is) own-mark-allowed
+
+  pub accepted-parts : {b : SegmentBreakdown} → segmentCheck s ≡ Accepted → SegmentParted (segmentPartsBy s (groundMark s)) b → SegmentParted (segmentBreakdownOf s) b
+  unfolding segmentBreakdownOf
+  accepted-parts {b} e p = subst (λ (v : SegmentBreakdown). SegmentParted v b) (accepted-breakdown (groundMark s) e) p
+
+  pub refused-parts : {k : Refusal} → segmentCheck s ≡ Refused k → SegmentParted (segmentBreakdownOf s) (made (pos 0) (pos 0) (pos 0) (pos 0) (pos 0) false (pos 0) (pos 0) (pos 0) (pos 0))
+  unfolding segmentBreakdownOf noSegmentParts
+  refused-parts e =
+      let zero : Below 2000 (pos 0) = natural-below (lit< tt) in
+      record {
+        is = refused-breakdown (groundMark s) e;
+        small = record { distance = zero; air = zero; angle = zero; opposite = zero; path = zero; facade = zero; chart = zero; track = zero; ballast = zero };
+      }
+
+-- ---- their sum, as the code adds it
+
+-- four numbers, the last two first
+module _ {m : ℕ} {a b c d : ℤ} (ta : Below 2000 a) (tb : Below 2000 b) (tc : Below 2000 c) (td : Below m d) (h : m + 6000 ≤ 100000) where
+  pub first-fits : SFits w32 (read c +ℤ read d)
+  first-fits = summand tc td (omega arith)
+
+  abbrev first : ℤ
+  first = read c +ℤ read d
+
+  first-sum : Sum (2000 + m) c d first
+  first-sum = added tc td (omega arith)
+
+  pub second-fits : SFits w32 (read b +ℤ read first)
+  second-fits = summand {x = b} {y = first} tb (first-sum .small) (omega arith)
+
+  abbrev second : ℤ
+  second = read b +ℤ read first
+
+  second-sum : Sum (2000 + (2000 + m)) b first second
+  second-sum = added {x = b} {y = first} tb (first-sum .small) (omega arith)
+
+  pub third-fits : SFits w32 (read a +ℤ read second)
+  third-fits = summand {x = a} {y = second} ta (second-sum .small) (omega arith)
+
+  third-sum : Sum (2000 + (2000 + (2000 + m))) a second (read a +ℤ read second)
+  third-sum = added {x = a} {y = second} ta (second-sum .small) (omega arith)
+
+  pub four-added : Added (m + 6000) a b c d (read a +ℤ read second)
+  four-added =
+      record {
+        is = third-sum .is ∙ ap (λ (z : ℤ). a +ℤ z) (second-sum .is ∙ ap (λ (z : ℤ). b +ℤ z) (first-sum .is));
+        small = below-more (omega arith) (third-sum .small);
+      }
+
+  pub four-read : Added (m + 6000) a b c d (read (read a +ℤ read second))
+  four-read =
+      let e = below-back (below-more (omega arith) (four-added .small)) in
+      record { is = e ∙ four-added .is; small = subst (Below (m + 6000)) (sym e) (four-added .small) }
+
+-- all of them, the readings first
+module _ {b v : SegmentBreakdown} (p : SegmentParted v b) {e : ℤ} (r : Added 8000 (b .facade) (b .chart) (b .track) (b .ballast) e) where
+  pub path-fits : SFits w32 (read (b .path) +ℤ read e)
+  path-fits = let q = p .small in first-fits (q .angle) (q .opposite) (q .path) (r .small) (lit≤ tt)
+
+  pub opposite-fits : SFits w32 (read (b .opposite) +ℤ read (read (b .path) +ℤ read e))
+  opposite-fits = let q = p .small in second-fits (q .angle) (q .opposite) (q .path) (r .small) (lit≤ tt)
+
+  abbrev across : ℤ
+  across = read (b .angle) +ℤ read (read (b .opposite) +ℤ read (read (b .path) +ℤ read e))
+
+  pub angle-fits : SFits w32 across
+  angle-fits = let q = p .small in third-fits (q .angle) (q .opposite) (q .path) (r .small) (lit≤ tt)
+
+  across-sum : Added 14000 (b .angle) (b .opposite) (b .path) e across
+  across-sum = let q = p .small in four-added (q .angle) (q .opposite) (q .path) (r .small) (lit≤ tt)
+
+  pub air-fits : SFits w32 (read (b .air) +ℤ read across)
+  air-fits = summand {x = b .air} {y = across} (p .small .air) (across-sum .small) (lit≤ tt)
+
+  abbrev beyond : ℤ
+  beyond = read (b .air) +ℤ read across
+
+  air-sum : Sum 16000 (b .air) across beyond
+  air-sum = added {x = b .air} {y = across} (p .small .air) (across-sum .small) (lit≤ tt)
+
+  pub distance-fits : SFits w32 (read (b .distance) +ℤ read beyond)
+  distance-fits = summand {x = b .distance} {y = beyond} (p .small .distance) (air-sum .small) (lit≤ tt)
+
+  distance-sum : Sum 18000 (b .distance) beyond (read (read (b .distance) +ℤ read beyond))
+  distance-sum = summed {x = b .distance} {y = beyond} (p .small .distance) (air-sum .small) (lit≤ tt)
+
+  parts-add-up : read (read (b .distance) +ℤ read beyond) ≡ addedUp b
+  unfolding addedUp
+  parts-add-up =
+      distance-sum .is
+      ∙ ap (λ (z : ℤ). b .distance +ℤ z)
+          (air-sum .is ∙ ap (λ (z : ℤ). b .air +ℤ z) (across-sum .is ∙ ap (λ (z : ℤ). b .angle +ℤ (b .opposite +ℤ (b .path +ℤ z))) (r .is)))
+
+  pub propagates : (s : Segment) → v ≡ segmentBreakdownOf s → Propagates (propagationOf s) (record { tenths = read (read (b .distance) +ℤ read beyond); close = b .close })
+  unfolding propagationOf
+  propagates s i =
+      let same = p .is ∙ i in
+      record {
+        is = ap₂ propagation (parts-add-up ∙ ap addedUp same) (ap (λ (d : SegmentBreakdown). d .close) same);
+        small = below-more (lit≤ tt) (distance-sum .small);
+      }
+    where
+      propagation : ℤ → Bool → Propagation
+      propagation t c = record { tenths = t; close = c }
+
+-- ---- near its fence
+
+-- the sum by a mark
+pub segmentTenths : Segment → Bool → ℤ
+segmentTenths s mark = addedUp (segmentPartsBy s mark)
+
+readings : Segment → ℤ
+readings s = facadeTenths s +ℤ (s .chart +ℤ (s .track +ℤ s .ballast))
+
+-- five steps are rounded, one of them by its mark
+pub near-segment : (s : Segment) (mark : Bool) → Near 249995 252000 (segmentTenths s mark) (segmentFence s)
+unfolding segmentTenths segmentPartsBy addedUp segmentFence readings
+near-segment s mark =
+    near-add (near-nearest (distanceFence s))
+    (near-add (near-nearest (airFence s))
+    (near-add (near-nearest (angleFence s)) (near-add (near-nearest (oppositeFence s)) (near-add (near-mark mark (pathFence s)) (near-exact (readings s))))))
+
+readings-lies : (s : Segment) → Ranges s → Signed 30 275 (readings s)
+unfolding readings
+readings-lies s g = lies-add (facade-lies s) (lies-add (lies-from (g .ranged .chart)) (lies-add (lies-from (g .readings .track)) (g .readings .ballast)))
+
+pub segment-lies : (s : Segment) → Ranges s → Signed 88690000 42220000 (segmentFence s)
+unfolding segmentFence readings
+segment-lies s g =
+    lies-within (lit≤ tt) (lit≤ tt)
+    (lies-add (distance-lies (g .ranged))
+    (lies-add (air-lies (g .ranged))
+    (lies-add (angle-lies (g .ranged)) (lies-add (opposite-lies (g .readings)) (lies-add (path-lies s g) (lies-micro (readings-lies s g)))))))
+
+-- ---- what is propagated: that sum, or nothing
+
+pub accepted-tenths : (s : Segment) (mark : Bool) → segmentCheck s ≡ Accepted → addedUp (segmentBreakdownBy s mark) ≡ segmentTenths s mark
+unfolding segmentTenths
+accepted-tenths s mark e = ap addedUp (sym (accepted-breakdown s mark e))
+
+pub refused-tenths : (s : Segment) (mark : Bool) {k : Refusal} → segmentCheck s ≡ Refused k → addedUp (segmentBreakdownBy s mark) ≡ pos 0
+unfolding addedUp noSegmentParts
+refused-tenths s mark e = ap addedUp (sym (refused-breakdown s mark e))

@@ -1,0 +1,11 @@
+pub mod Distance
+pub mod Air
+pub mod Angle
+pub mod Opposite
+pub mod Screen
+pub mod Check
+pub mod Ground
+pub mod Propagation
+pub mod Fences
+pub mod Results
+pub mod Private
