@@ -16,8 +16,8 @@ import sys
 LONG = {
     "text segment_of": "document 01 asks for a `let .. else` for each of the 14 fields",
 }
-# Written by tools/tables.py: many entries of a table are the same number.
-TABLES = {"crates/decibel/src/thresholds.rt", "crates/energy/src/weights.rt"}
+# Written by tools/tables.py: a table's function has an arm for each entry.
+TABLES = {"crates/decibel_tables/src/lib.rt", "crates/energy_tables/src/lib.rt"}
 
 FUNCTION = re.compile(
     r"""^(?P<indent>[ \t]*)(?P<public>pub[ ])?(?:pub\(crate\)[ ])?(?:extern[ ]"C"[ ])?fn[ ](?P<name>\w+)

@@ -9,7 +9,7 @@ use lib.ListN.{length, getD}
 use mir.Syntax.{w32}
 use mir.Val.{SFits}
 use Rattle.decibel.specs.Ints.{up}
-use Rattle.decibel.specs.Table.{every}
+use Rattle.decibel.proofs.Tests.{everyEntry}
 use Rattle.decibel.proofs.Table.{at-every}
 use Rattle.figures.specs.declared.Train.{Train}
 use Rattle.figures.specs.Rules.{mostRow}
@@ -17,7 +17,7 @@ use Rattle.figures.specs.Bounds.{Below, Signed, Exactly, TrainRanged}
 use Rattle.emission.specs.Rolling.{rollings, rollingTenths}
 
 -- one test of the whole table
-small-rows : T (every (λ i x. leb x 180) 0 rollings)
+small-rows : T (everyEntry (λ i x. leb x 180) 0 rollings)
 unfolding rollings
 small-rows = tt
 

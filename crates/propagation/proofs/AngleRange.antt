@@ -13,7 +13,7 @@ use lib.Signed.{quotZ}
 use borrow.Author.Tests.{le-leb, lt-leb, leb-false}
 use Rattle.decibel.specs.Ints.{up, dn}
 use Rattle.decibel.specs.Log.{fence}
-use Rattle.decibel.specs.Table.{both}
+use Rattle.decibel.proofs.Tests.{both}
 use Rattle.decibel.specs.Sine.{sineOf, sineAt, cosineAt, series, term, arc, factorial, denominator}
 use Rattle.decibel.proofs.Ints.{add-is, neg-is, up-pos}
 use Rattle.decibel.proofs.Greatest.{clamp-same}

@@ -88,7 +88,7 @@ module _ (s : Segment) where
   refused-breakdown mark e = sym (rw e refl)
 
   -- 01 allows the program's own mark of every segment
-  own-mark-allowed : SegmentMark s (segmentBreakdownOf s .close)
+  pub own-mark-allowed : SegmentMark s (segmentBreakdownOf s .close)
   unfolding SegmentMark SegmentMarkBy isAccepted segmentBreakdownOf segmentBreakdownBy segmentPartsBy noSegmentParts
   own-mark-allowed = go (segmentCheck s) refl
     where

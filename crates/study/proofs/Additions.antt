@@ -5,14 +5,15 @@ use mathlib.Core.Bool.{Bool, true, false, not}
 use Prim.Native.Nat.{ℕ, _≤_, _<_}
 use borrow.Author.Tests.{le-leb, lt-leb, eq-eqb, ne-eqb, leb-false, eqb-false}
 use lib.Dec.{leb, eqb}
-use Rattle.steps.specs.declared.Segment.{Segment}
-use Rattle.steps.specs.declared.Train.{Train}
-use Rattle.steps.specs.declared.Refusal.{Refusal}
-use Rattle.steps.specs.declared.Refusal.the-variants.{NoSegment, SegmentLimit, EntryLimit}
-use Rattle.steps.specs.declared.Check.{Check}
-use Rattle.steps.specs.declared.Check.the-variants.{Accepted, Refused}
-use Rattle.steps.specs.Refusal.{unless, firstRefused}
-use Rattle.steps.specs.Rules.{segmentCheck, trainCheck}
+use Rattle.figures.specs.declared.Segment.{Segment}
+use Rattle.figures.specs.declared.Train.{Train}
+use Rattle.figures.specs.declared.Refusal.{Refusal}
+use Rattle.figures.specs.declared.Refusal.the-variants.{NoSegment, SegmentLimit, EntryLimit}
+use Rattle.figures.specs.declared.Check.{Check}
+use Rattle.figures.specs.declared.Check.the-variants.{Accepted, Refused}
+use Rattle.figures.specs.Refusal.{unless, firstRefused}
+use Rattle.figures.specs.Rules.{trainCheck}
+use Rattle.propagation.specs.Check.{segmentCheck}
 use Rattle.study.specs.declared.Study.{Study}
 use Rattle.study.specs.declared.Added.{Added}
 use Rattle.study.specs.Add.{Limits, segmentLimit, segmentAnswer, trainLimit, trainAnswer, answer}

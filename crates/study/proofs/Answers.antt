@@ -8,20 +8,20 @@ use borrow.Author.Tests.{lt-ltb, le-ltb, le-leb, lt-leb}
 use lib.IntN.{ℤ}
 use lib.ListN.{length, take, drop, getD, set, length-append}
 use lib.Seq.{paste, paste-zero, length-paste, length-take-le, take-all, take-at, drop-at, drop-append-add, drop-drop, set-append-left, take-set-lt, drop-set-lt}
-use Rattle.steps.specs.declared.Period.the-variants.{Day, Night}
-use Rattle.steps.specs.declared.Refusal.{Refusal}
-use Rattle.steps.specs.declared.Refusal.the-variants.{NoEntry, FewCells}
-use Rattle.steps.specs.declared.Check.the-variants.{Accepted, Refused}
-use Rattle.steps.specs.declared.Propagation.{Propagation}
-use Rattle.steps.specs.Refusal.{unless}
-use Rattle.steps.specs.Entry.{emissionOf, raised}
+use Rattle.figures.specs.declared.Period.the-variants.{Day, Night}
+use Rattle.figures.specs.declared.Refusal.{Refusal}
+use Rattle.figures.specs.declared.Refusal.the-variants.{NoEntry, FewCells}
+use Rattle.figures.specs.declared.Check.the-variants.{Accepted, Refused}
+use Rattle.propagation.specs.declared.Propagation.{Propagation}
+use Rattle.figures.specs.Refusal.{unless}
+use Rattle.emission.specs.Emission.{emissionOf, raised}
 use Rattle.study.specs.declared.Entry.{Entry}
 use Rattle.study.specs.declared.Study.{Study}
 use Rattle.study.specs.declared.request.Answer.{Answer}
 use Rattle.study.specs.Plan.{Plan, planOf, noEntry}
 use Rattle.study.specs.Levels.{levelsOf, levelAt, cellOf, ownMarks}
 use Rattle.study.specs.Request.{levelsCheck, cellsBy, cellsAnswered, answerBy, refusedBy, Answered}
-use Rattle.study.specs.Parts.{noPropagation, Propagated}
+use Rattle.study.specs.Private.{noPropagation, Propagated}
 use Rattle.study.proofs.Cells.{cellsOf, cells-length, cell-written}
 use Rattle.study.proofs.Results.{own-allowed}
 

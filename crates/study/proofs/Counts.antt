@@ -7,16 +7,15 @@ use Prim.Native.Nat.{ℕ, zero, suc, _+_, _-_, _<_, _≤_}
 use native.Mathlib.Nat.{add-zero, add-suc}
 use native.Mathlib.Omega.{arith}
 use lib.ListN.{length, getD, List·getD-eq-default}
-use Rattle.steps.specs.declared.Segment.{Segment}
-use Rattle.steps.specs.declared.Propagation.{Propagation}
-use Rattle.steps.specs.declared.Period.{Period}
-use Rattle.steps.specs.Entry.{propagationOf}
+use Rattle.figures.specs.declared.Segment.{Segment}
+use Rattle.figures.specs.declared.Period.{Period}
+use Rattle.propagation.specs.Propagation.{propagationOf}
 use Rattle.study.specs.Plan.{Plan, segmentAt, noSegment}
 use Rattle.study.specs.Levels.{Marks, markAt, ownMarks, heardAt, closeFrom, closeSegments}
-use Rattle.study.specs.Parts.{noPropagation, Propagated, countTo}
+use Rattle.study.specs.Private.{countTo}
 use Rattle.study.proofs.Found.{own-mark, none-adds}
 
-count-same : (f g : ℕ → Bool) (n : ℕ) → ((k : ℕ) → k < n → f k ≡ g k) → countTo f n ≡ countTo g n
+pub count-same : (f g : ℕ → Bool) (n : ℕ) → ((k : ℕ) → k < n → f k ≡ g k) → countTo f n ≡ countTo g n
 unfolding countTo
 count-same f g zero h = refl
 count-same f g (suc n) h = rw (count-same f g n (λ k l. h k (omega arith)), h n (omega arith))
@@ -51,11 +50,11 @@ unfolding ownMarks
 own-marks plan k = own-mark plan k
 
 -- the close count by what was found of the segments, and which are heard
-pub close-found : (p : Period) (plan : Plan) (found : List Propagation) (heard : List Bool) → length (plan .segments) ≤ 24 → Propagated plan found
-    → ((k : ℕ) → k < 24 → getD heard k false ≡ heardAt p k (plan .entries))
-    → countTo (λ k. getD found k noPropagation .close && getD heard k false) 24 ≡ closeSegments p plan (ownMarks plan)
-close-found p plan found heard few all sounds =
-    count-same (λ k. getD found k noPropagation .close && getD heard k false) (counts p plan (ownMarks plan)) 24 same
+pub close-found : (p : Period) (plan : Plan) (close : List Bool) (heard : ℕ → Bool) → length (plan .segments) ≤ 24 → ((k : ℕ) → getD close k false ≡ propagationOf (segmentAt plan k) .close)
+    → ((k : ℕ) → heard k ≡ heardAt p k (plan .entries))
+    → countTo (λ k. getD close k false && heard k) 24 ≡ closeSegments p plan (ownMarks plan)
+close-found p plan close heard few all sounds =
+    count-same (λ k. getD close k false && heard k) (counts p plan (ownMarks plan)) 24 same
     ∙ ap (countTo (counts p plan (ownMarks plan))) split
     ∙ count-past (counts p plan (ownMarks plan)) (length (plan .segments)) (24 - length (plan .segments)) past
     ∙ sym (close-is p plan (ownMarks plan))
@@ -63,8 +62,8 @@ close-found p plan found heard few all sounds =
     split : 24 ≡ length (plan .segments) + (24 - length (plan .segments))
     split = omega arith
 
-    same : (k : ℕ) → k < 24 → (getD found k noPropagation .close && getD heard k false) ≡ counts p plan (ownMarks plan) k
-    same k h = rw (sounds k h, own-marks plan k, all .each k)
+    same : (k : ℕ) → k < 24 → (getD close k false && heard k) ≡ counts p plan (ownMarks plan) k
+    same k h = rw (sounds k, own-marks plan k, all k)
 
     past : (k : ℕ) → length (plan .segments) ≤ k → counts p plan (ownMarks plan) k ≡ false
     past k h = rw (own-marks plan k, List·getD-eq-default (plan .segments) noSegment h, none-adds)

@@ -9,11 +9,11 @@ use native.Mathlib.Omega.{arith}
 use lib.IntN.{ℤ}
 use lib.ListN.{length}
 use borrow.Author.Tests.{lt-ltb, le-leb}
-use Rattle.steps.specs.declared.Period.{Period}
-use Rattle.steps.specs.declared.Period.the-variants.{Day, Night}
-use Rattle.steps.specs.declared.Check.{Check}
-use Rattle.steps.specs.declared.Check.the-variants.{Accepted}
-use Rattle.steps.specs.Refusal.{unless}
+use Rattle.figures.specs.declared.Period.{Period}
+use Rattle.figures.specs.declared.Period.the-variants.{Day, Night}
+use Rattle.figures.specs.declared.Check.{Check}
+use Rattle.figures.specs.declared.Check.the-variants.{Accepted}
+use Rattle.figures.specs.Refusal.{unless}
 use Rattle.study.specs.declared.Entry.{Entry}
 use Rattle.study.specs.declared.request.Answer.{Answer}
 use Rattle.study.specs.Plan.{Plan, planOf}

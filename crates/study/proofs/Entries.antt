@@ -19,16 +19,16 @@ use Rattle.energy.specs.Accuracy.{Entries, none, next}
 use Rattle.energy.specs.Accuracy as Totals
 use Rattle.energy.proofs.Accurate.{accurate, entries-bare}
 use Rattle.energy.proofs.Bare.{bare-same}
-use Rattle.steps.proofs.Near.{near-entry}
-use Rattle.steps.proofs.Loud.{entry-loud}
-use Rattle.steps.specs.declared.Segment.{Segment}
-use Rattle.steps.specs.declared.Train.{Train}
-use Rattle.steps.specs.declared.Period.{Period}
-use Rattle.steps.specs.declared.Period.the-variants.{Day, Night}
-use Rattle.steps.specs.declared.Check.the-variants.{Accepted}
-use Rattle.steps.specs.Refusal.{isAccepted}
-use Rattle.steps.specs.Rules.{segmentCheck, trainCheck}
-use Rattle.steps.specs.Entry.{sounds, entryFence, entryTenths, emissionOf, propagationBy, raised, levelBy}
+use Rattle.figures.specs.declared.Segment.{Segment}
+use Rattle.figures.specs.declared.Train.{Train}
+use Rattle.figures.specs.declared.Period.{Period}
+use Rattle.figures.specs.declared.Period.the-variants.{Day, Night}
+use Rattle.figures.specs.declared.Check.the-variants.{Accepted}
+use Rattle.figures.specs.Rules.{trainCheck}
+use Rattle.propagation.specs.Check.{segmentCheck}
+use Rattle.emission.specs.Trains.{sounds}
+use Rattle.study.specs.Entry.{entryFence}
+use Rattle.study.proofs.EntryLevels.{near-entry, level-figure, level-silent, entry-loud}
 use Rattle.study.specs.declared.Entry.{Entry}
 use Rattle.study.specs.declared.request.PeriodResult.{PeriodResult}
 use Rattle.study.specs.Plan.{Plan, segmentAt}
@@ -38,16 +38,6 @@ use Rattle.study.specs.Run as Run
 use Rattle.study.specs.Levels.{Marks, markAt, totalMarkIn, levelAt, levelsOf, figures, limitOf, metBy, resultFrom, resultBy, closeSegments}
 use Rattle.study.proofs.Plans.{segment-kept}
 use Rattle.study.specs.Accuracy.{fencesOf, Bare, hasTrains, alwaysFrom, neverBelow, Accurate, AccurateToBare}
-
--- an accepted entry's level: the sum of its tenths where it has trains, else silent
-module _ (p : Period) (s : Segment) (mark : Bool) (t : Train) (kept-segment : segmentCheck s ≡ Accepted) (kept-train : trainCheck t ≡ Accepted) where
-  pub level-figure : sounds p t ≡ true → levelBy p s mark t ≡ Figure (entryTenths p s mark t)
-  unfolding levelBy propagationBy emissionOf isAccepted raised entryTenths
-  level-figure e = rw (kept-segment, kept-train, e) refl
-
-  pub level-silent : sounds p t ≡ false → levelBy p s mark t ≡ Silent
-  unfolding levelBy propagationBy emissionOf isAccepted raised
-  level-silent e = rw (kept-segment, kept-train, e) refl
 
 -- the fences and the figures of the entries that have trains in a period
 pub entries-near : (p : Period) {l : Limits} (plan : Plan) (m : Marks) → Held l plan → {es : List Entry} → Each (EntryHeld (plan .segments)) es → Entries (fencesOf p plan es) (figures (map (levelAt p plan m) es))
@@ -65,8 +55,8 @@ entries-near p plan m held (Run.Each.next {x = e} {xs = es} at rest) = go (sound
     kept = segment-kept plan held (e .segment) (at .segment)
 
     go : (b : Bool) → sounds p (e .train) ≡ b → Entries (fencesOf p plan es) (figures (map (levelAt p plan m) es)) → Entries (fencesOf p plan (e ∷ es)) (figures (map (levelAt p plan m) (e ∷ es)))
-    go true q r = rw (q, level-figure p s mark (e .train) kept (at .train) q) (next (near-entry p s mark (e .train)) (entry-loud p s (e .train) kept (at .train) q) r)
-    go false q r = rw (q, level-silent p s mark (e .train) kept (at .train) q) r
+    go true q r = rw (q, level-figure p s (e .train) kept (at .train) mark q) (next (near-entry p s mark (e .train)) (entry-loud p s (e .train) kept (at .train) q) r)
+    go false q r = rw (q, level-silent p s (e .train) kept (at .train) mark q) r
 
 -- no more fences than entries, and one where some entry has trains
 fences-few : (p : Period) (plan : Plan) (es : List Entry) → length (fencesOf p plan es) ≤ length es

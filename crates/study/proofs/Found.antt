@@ -1,4 +1,4 @@
--- What each segment of a plan adds, at its place in an array.
+-- What each segment of a plan adds, and its close mark, at its place in two arrays.
 -- Assumes nothing.
 use mathlib.Core.Path.{_≡_, refl, sym, ap, _∙_}
 use mathlib.Core.Bool.{Bool, true, false, cond}
@@ -10,23 +10,24 @@ use native.Mathlib.Omega.{arith}
 use borrow.Author.Count.{below-more}
 use borrow.Author.Tests.{eqb-true, eqb-false}
 use lib.Dec.{eqb}
-use lib.IntN.{pos}
+use lib.IntN.{ℤ, pos}
 use lib.ListN.{length, getD, set, replicate, length-set, List·getD-map, List·getD-eq-default}
 use lib.Seq.{getD-set-same, getD-set-other}
-use Rattle.steps.specs.declared.Segment.{Segment}
-use Rattle.steps.specs.declared.Propagation.{Propagation}
-use Rattle.steps.specs.Refusal.{unless, isAccepted}
-use Rattle.steps.specs.Rules.{segmentCheck, distanceKept}
-use Rattle.steps.specs.Entry.{propagationOf, propagationBy, segmentTenths}
-use Rattle.steps.specs.Ground.{groundMark}
-use Rattle.steps.specs.Parts.{Below}
+use Rattle.figures.specs.declared.Segment.{Segment}
+use Rattle.figures.specs.Refusal.{unless, isAccepted}
+use Rattle.figures.specs.Rules.{distanceKept, rangesThen}
+use Rattle.figures.specs.Bounds.{Below}
+use Rattle.propagation.specs.declared.Propagation.{Propagation}
+use Rattle.propagation.specs.Check.{segmentCheck}
+use Rattle.propagation.specs.Ground.{groundMark}
+use Rattle.propagation.specs.Propagation.{segmentPartsBy, noSegmentParts, segmentBreakdownBy, segmentBreakdownOf, addedUp, propagationOf}
 use Rattle.study.specs.Plan.{Plan, segmentAt, noSegment}
 use Rattle.study.specs.Levels.{markAt, groundMarks}
-use Rattle.study.specs.Parts.{noPropagation, Propagated}
+use Rattle.study.specs.Private.{Blank, TenthsFound, Propagated}
 
 -- nothing is added where there is no segment
-pub none-adds : propagationOf noSegment ≡ noPropagation
-unfolding propagationOf segmentCheck distanceKept unless isAccepted
+pub none-adds : propagationOf noSegment ≡ record { tenths = pos 0; close = false }
+unfolding propagationOf segmentBreakdownOf segmentBreakdownBy noSegmentParts addedUp segmentCheck rangesThen distanceKept unless isAccepted
 none-adds = refl
 
 -- the program's own mark is the ground's, and false where there is no segment
@@ -37,61 +38,63 @@ own-mark plan k =
     ∙ List·getD-map (λ (s : Segment). propagationOf s .close) (plan .segments) k noSegment
 
 -- and with it a segment's tenths are those that it adds
-pub own-tenths : (s : Segment) → propagationBy s (propagationOf s .close) ≡ propagationOf s .tenths
-unfolding propagationBy propagationOf
+pub own-tenths : (s : Segment) → addedUp (segmentBreakdownBy s (propagationOf s .close)) ≡ propagationOf s .tenths
+unfolding segmentBreakdownBy propagationOf segmentBreakdownOf segmentPartsBy
 own-tenths s = go (isAccepted (segmentCheck s))
   where
-    go : (b : Bool)
-        → cond b (segmentTenths s (cond b (record { tenths = segmentTenths s (groundMark s); close = groundMark s }) noPropagation .close)) (pos 0)
-        ≡ cond b (record { tenths = segmentTenths s (groundMark s); close = groundMark s }) noPropagation .tenths
+    go : (b : Bool) → addedUp (cond b (segmentPartsBy s (cond b (segmentPartsBy s (groundMark s)) noSegmentParts .close)) noSegmentParts) ≡ addedUp (cond b (segmentPartsBy s (groundMark s)) noSegmentParts)
     go true = refl
     go false = refl
 
--- ---- the array, filled from the front
+-- ---- the arrays, filled from the front
 
-pub record FoundTo (plan : Plan) (k : ℕ) (found : List Propagation) : Type 0 where
-  pub size : length found ≡ 24
-  pub done : (j : ℕ) → j < k → getD found j noPropagation ≡ propagationOf (segmentAt plan j)
-  pub rest : (j : ℕ) → k ≤ j → getD found j noPropagation ≡ noPropagation
-  pub small : (j : ℕ) → Below 20000 (getD found j noPropagation .tenths)
+-- one array of something that a plan's segments have, d where there is no segment
+pub record FilledTo {A : Type 0} (d : A) (of : ℕ → A) (k : ℕ) (xs : List A) : Type 0 where
+  pub size : length xs ≡ 24
+  pub done : (j : ℕ) → j < k → getD xs j d ≡ of j
+  pub rest : (j : ℕ) → k ≤ j → getD xs j d ≡ d
 
 repeated : {A : Type 0} (n i : ℕ) (a : A) → getD (replicate n a) i a ≡ a
 repeated zero i a = refl
 repeated (suc n) zero a = refl
 repeated (suc n) (suc i) a = repeated n i a
 
-pub found-none : (plan : Plan) → FoundTo plan 0 (replicate 24 noPropagation)
-found-none plan =
-    record {
-      size = refl;
-      done = λ j h. absurd (not-suc-le-zero h);
-      rest = λ j h. repeated 24 j noPropagation;
-      small = λ j. rw (repeated 24 j noPropagation) (record { most = omega arith; least = omega arith });
-    }
+pub filled-none : {A : Type 0} (d : A) (of : ℕ → A) {xs : List A} → xs ≡ replicate 24 d → FilledTo d of 0 xs
+filled-none d of e = rw e (record { size = refl; done = λ j h. absurd (not-suc-le-zero h); rest = λ j h. repeated 24 j d })
 
-set-small : (found : List Propagation) (k j : ℕ) (p : Propagation) → k < length found → Below 20000 (p .tenths) → Below 20000 (getD found j noPropagation .tenths) → Below 20000 (getD (set found k p) j noPropagation .tenths)
-set-small found k j p h new old = go (eqb j k) refl
-  where
-    go : (b : Bool) → eqb j k ≡ b → Below 20000 (getD (set found k p) j noPropagation .tenths)
-    go true e = rw (eqb-true j k e, getD-set-same found k p noPropagation h) new
-    go false e = rw (getD-set-other found k j p noPropagation (eqb-false j k e)) old
-
-pub found-more : (plan : Plan) (k : ℕ) (found : List Propagation) (p : Propagation) → k < 24 → FoundTo plan k found → p ≡ propagationOf (segmentAt plan k) → Below 20000 (p .tenths) → FoundTo plan (k + 1) (set found k p)
-found-more plan k found p h old e b =
+pub filled-more : {A : Type 0} (d : A) (of : ℕ → A) (k : ℕ) {xs : List A} {v : A} → k < 24 → FilledTo d of k xs → v ≡ of k → FilledTo d of (k + 1) (set xs k v)
+filled-more d of k {xs} {v} h old e =
     record {
-      size = length-set found k p ∙ old .size;
+      size = length-set xs k v ∙ old .size;
       done =
-          below-more (λ (j : ℕ). getD (set found k p) j noPropagation ≡ propagationOf (segmentAt plan j)) k
-          (λ j l. getD-set-other found k j p noPropagation (λ z. omega arith) ∙ old .done j l)
-          (getD-set-same found k p noPropagation (omega (arith, old .size)) ∙ e);
-      rest = λ j l. getD-set-other found k j p noPropagation (λ z. omega arith) ∙ old .rest j (omega arith);
-      small = λ j. set-small found k j p (omega (arith, old .size)) b (old .small j);
+          below-more (λ (j : ℕ). getD (set xs k v) j d ≡ of j) k
+          (λ j l. getD-set-other xs k j v d (λ z. omega arith) ∙ old .done j l)
+          (getD-set-same xs k v d (omega (arith, old .size)) ∙ e);
+      rest = λ j l. getD-set-other xs k j v d (λ z. omega arith) ∙ old .rest j (omega arith);
     }
 
-pub found-all : (plan : Plan) (k : ℕ) (found : List Propagation) → k ≡ length (plan .segments) → FoundTo plan k found → Propagated plan found
-found-all plan k found e old = record { each = λ j. go j (decLt j k); small = old .small }
+-- each place, where those past the last segment hold what no segment has
+filled-each : {A : Type 0} (d : A) (of : ℕ → A) (k : ℕ) {xs : List A} → FilledTo d of k xs → ((j : ℕ) → k ≤ j → of j ≡ d) → (j : ℕ) → getD xs j d ≡ of j
+filled-each d of k {xs} all past j = go (decLt j k)
   where
-    go : (j : ℕ) → Dec (j < k) → getD found j noPropagation ≡ propagationOf (segmentAt plan j)
-    go j (yes h) = old .done j h
-    go j (no f) =
-        old .rest j (omega arith) ∙ sym none-adds ∙ ap propagationOf (sym (List·getD-eq-default (plan .segments) noSegment (omega arith)))
+    go : Dec (j < k) → getD xs j d ≡ of j
+    go (yes h) = all .done j h
+    go (no f) = all .rest j (omega arith) ∙ sym (past j (omega arith))
+
+abbrev pub tenthsOf : Plan → ℕ → ℤ
+tenthsOf plan j = propagationOf (segmentAt plan j) .tenths
+
+abbrev pub closeOf : Plan → ℕ → Bool
+closeOf plan j = propagationOf (segmentAt plan j) .close
+
+no-segment-adds : (plan : Plan) (j : ℕ) → length (plan .segments) ≤ j → propagationOf (segmentAt plan j) ≡ record { tenths = pos 0; close = false }
+no-segment-adds plan j h = ap propagationOf (List·getD-eq-default (plan .segments) noSegment h) ∙ none-adds
+
+pub found-all : (plan : Plan) (k : ℕ) {tenths : List ℤ} {close : List Bool} → k ≡ length (plan .segments) → FilledTo (pos 0) (tenthsOf plan) k tenths → FilledTo false (closeOf plan) k close
+    → ((j : ℕ) → Below 20000 (tenthsOf plan j)) → Propagated plan tenths close
+found-all plan k e t c small =
+    let each = filled-each (pos 0) (tenthsOf plan) k t (λ j h. ap (λ (p : Propagation). p .tenths) (no-segment-adds plan j (omega arith))) in
+    record {
+      tenths = record { each = each; small = λ j. rw (each j) (small j) };
+      close = filled-each false (closeOf plan) k c (λ j h. ap (λ (p : Propagation). p .close) (no-segment-adds plan j (omega arith)));
+    }

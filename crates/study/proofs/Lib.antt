@@ -4,6 +4,7 @@ pub mod Plans
 pub mod Listed
 pub mod Remaining
 pub mod Sizes
+pub mod EntryLevels
 pub mod Found
 pub mod Cells
 pub mod Verdicts

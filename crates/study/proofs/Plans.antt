@@ -6,12 +6,12 @@ use Prim.Native.Nat.{ℕ, zero, suc, _+_, _-_, _<_}
 use native.Mathlib.Nat.{not-suc-le-zero, le-of-suc-le-suc}
 use native.Mathlib.Omega.{arith}
 use lib.ListN.{length, getD, length-append}
-use Rattle.steps.specs.declared.Segment.{Segment}
-use Rattle.steps.specs.declared.Train.{Train}
-use Rattle.steps.specs.declared.Refusal.{Refusal}
-use Rattle.steps.specs.declared.Check.{Check}
-use Rattle.steps.specs.declared.Check.the-variants.{Accepted, Refused}
-use Rattle.steps.specs.Rules.{segmentCheck}
+use Rattle.figures.specs.declared.Segment.{Segment}
+use Rattle.figures.specs.declared.Train.{Train}
+use Rattle.figures.specs.declared.Refusal.{Refusal}
+use Rattle.figures.specs.declared.Check.{Check}
+use Rattle.figures.specs.declared.Check.the-variants.{Accepted, Refused}
+use Rattle.propagation.specs.Check.{segmentCheck}
 use Rattle.study.specs.declared.Entry.{Entry}
 use Rattle.study.specs.Plan.{Plan, emptyPlan, segmentAt, noSegment}
 use Rattle.study.specs.Add.{Limits, segmentAnswer, trainAnswer}

@@ -12,15 +12,15 @@ use Rattle.energy.specs.declared.Total.{Total}
 use Rattle.energy.specs.Total.{heard, TotalMark}
 use Rattle.energy.specs.Mark.{totalMark, totalOf}
 use Rattle.energy.proofs.Named.{total-allowed}
-use Rattle.steps.specs.declared.Propagation.{Propagation}
-use Rattle.steps.specs.declared.Period.{Period}
-use Rattle.steps.specs.declared.Period.the-variants.{Day, Night}
-use Rattle.steps.specs.Ground.{SegmentMark}
+use Rattle.propagation.specs.declared.Propagation.{Propagation}
+use Rattle.figures.specs.declared.Period.{Period}
+use Rattle.figures.specs.declared.Period.the-variants.{Day, Night}
+use Rattle.propagation.specs.Ground.{SegmentMark}
 use Rattle.study.specs.declared.request.PeriodResult.{PeriodResult}
 use Rattle.study.specs.Plan.{Plan, segmentAt}
 use Rattle.study.specs.Levels.{levelsOf, levelAt, figures, totalMarkIn, groundMarks, ownMarks, closeSegments, metBy, resultFrom, resultBy, MarksAllowed}
-use Rattle.study.specs.Parts.{noPropagation, Propagated, SegmentsHeard, CloseCount}
-use Rattle.steps.proofs.Allowed.{own-mark-allowed}
+use Rattle.study.specs.Private.{noPropagation, Propagated, SegmentsHeard, CloseCount}
+use Rattle.propagation.proofs.SegmentSum.{own-mark-allowed}
 use Rattle.study.proofs.Cells.{cellsOf, cells-length}
 use Rattle.study.proofs.Totals.{figures-kept, figures-few, cells-heard, cells-sound}
 use Rattle.study.proofs.Counts.{own-marks, close-found}
@@ -36,26 +36,16 @@ module _ (p : Period) (plan : Plan) where
       go Day = refl
       go Night = refl
 
-  module _ (few-segments : length (plan .segments) ≤ 24) (few-entries : length (plan .entries) ≤ 96) {found : List Propagation} (all : Propagated plan found) where
-    total-is : {t : Total} → t ≡ totalOf (heard (take 96 (cellsOf p plan))) → t ≡ totalOf (figures (levelsOf p plan (groundMarks plan)))
-    unfolding levelsOf
-    total-is e =
-        e ∙ ap (λ (cs : List ℤ). totalOf (heard cs)) (take-all 96 (cellsOf p plan) (omega (arith, cells-length p plan)))
-        ∙ ap totalOf (cells-heard p plan (groundMarks plan) (plan .entries))
-
-    close-is : {segments : List Bool} {r : ℕ} → SegmentsHeard (plan .entries) (cellsOf p plan) segments → CloseCount found segments r → r ≡ closeSegments p plan (ownMarks plan)
-    unfolding levelsOf
-    close-is {segments} sounds count =
-        count .is ∙ close-found p plan found segments few-segments all (λ k h. sounds .each k h ∙ cells-sound p plan (groundMarks plan) k (plan .entries))
-
-    -- from the cells: the total of what they hold, the segments heard in them, and the verdict on the total
-    pub period-is : {cells : List ℤ} {t : Total} {segments : List Bool} {close one : ℕ} {met : Bool} → cells ≡ cellsOf p plan → t ≡ totalOf (heard (take 96 cells)) → SegmentsHeard (plan .entries) cells segments → CloseCount found segments close
-        → one ≡ cond (t .close) 1 0 → met ≡ metBy p (t .level) → _≡_ {A = PeriodResult} (record { level = t .level; close = close + one; met = met }) (resultBy p plan (ownMarks plan))
-    unfolding resultBy resultFrom totalOf levelsOf levelAt ownMarks
-    period-is {cells} {t} {segments} e f sounds count o m =
-        let total = total-is (f ∙ ap (λ (cs : List ℤ). totalOf (heard (take 96 cs))) e) in
-        let close = close-is (subst (λ (cs : List ℤ). SegmentsHeard (plan .entries) cs segments) e sounds) count in
-        rw (own-total, sym total, close, o, m)
+  -- from the levels: their total, the segments heard in them, and the verdict on the total
+  pub period-is : (close : List Bool) → length (plan .segments) ≤ 24 → ((k : ℕ) → getD close k false ≡ propagationOf (segmentAt plan k) .close)
+      → periodFrom p (cellsOf p plan) (placesOf (plan .entries)) close ≡ resultBy p plan (ownMarks plan)
+  unfolding periodFrom resultBy levelsOf levelAt ownMarks totalOf
+  period-is close few all =
+      ap₂ (resultFrom p) (total-is ∙ ap (λ (b : Bool). totalBy b (figures (map (levelAt p plan (groundMarks plan)) (plan .entries)))) (sym own-total))
+      (close-found p plan close (λ k. soundsAt k (placesOf (plan .entries)) (cellsOf p plan)) few all (λ k. cells-sound p plan (groundMarks plan) k (plan .entries)))
+    where
+      total-is : totalOf (heard (cellsOf p plan)) ≡ totalOf (figures (map (levelAt p plan (groundMarks plan)) (plan .entries)))
+      total-is = ap totalOf (cells-heard p plan (groundMarks plan) (plan .entries))
 
 -- ---- the marks
 

@@ -13,14 +13,16 @@ use Rattle.decibel.specs.declared.Level.the-variants.{Silent, Figure}
 use Rattle.energy.specs.Total.{heard}
 use Rattle.energy.proofs.Levels.{Kept, none, next}
 use Rattle.energy.proofs.Order.{le-true, lt-false}
-use Rattle.steps.specs.declared.Period.{Period}
-use Rattle.steps.specs.Entry.{emissionOf, propagationBy, levelBy, raised}
-use Rattle.steps.specs.Parts.{Signed}
+use Rattle.figures.specs.declared.Period.{Period}
+use Rattle.emission.specs.Emission.{emissionOf, raised}
+use Rattle.propagation.specs.Propagation.{segmentBreakdownBy, addedUp}
+use Rattle.study.specs.Entry.{levelBy}
+use Rattle.figures.specs.Bounds.{Signed}
 use Rattle.study.specs.declared.Entry.{Entry}
 use Rattle.study.specs.Plan.{Plan, segmentAt}
 use Rattle.study.specs.Levels.{Marks, markAt, levelAt, figures, cellOf, isHeard, heardAt}
-use Rattle.study.specs.Parts.{soundsAt}
-use Rattle.steps.proofs.Loud.{levels-lie}
+use Rattle.study.specs.Private.{placesOf, soundsAt}
+use Rattle.study.proofs.EntryLevels.{levels-lie}
 
 -- a level from -200 to 200 dB, or silent
 abbrev pub Lies : Level → Type 0
@@ -76,13 +78,13 @@ module _ (p : Period) (plan : Plan) (m : Marks) where
   cell-sounds e = go (emissionOf p (e .train)) (entry-lies e)
     where
       d : ℤ
-      d = propagationBy (segmentAt plan (e .segment)) (markAt m (e .segment))
+      d = addedUp (segmentBreakdownBy (segmentAt plan (e .segment)) (markAt m (e .segment)))
 
       go : (l : Level) → Lies (raised d l) → leZ (negsuc 1999) (cellOf (raised d l)) ≡ isHeard l
       go Silent lies = refl
       go (Figure r) lies = le-true (negsuc 1999) _ (at-least (lies _ refl))
 
-  pub cells-sound : (k : ℕ) (es : List Entry) → soundsAt k es (map cellOf (map (levelAt p plan m) es)) ≡ heardAt p k es
+  pub cells-sound : (k : ℕ) (es : List Entry) → soundsAt k (placesOf es) (map cellOf (map (levelAt p plan m) es)) ≡ heardAt p k es
   unfolding soundsAt heardAt
   cells-sound k [] = refl
   cells-sound k (e ∷ es) = rw (cell-sounds e, cells-sound k es)

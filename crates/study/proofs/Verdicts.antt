@@ -9,8 +9,8 @@ use lib.Signed.{leZ}
 use Rattle.decibel.specs.declared.Level.{Level}
 use Rattle.decibel.specs.declared.Level.the-variants.{Silent, Figure}
 use Rattle.energy.proofs.Verdict.{meets-is}
-use Rattle.steps.specs.declared.Period.{Period}
-use Rattle.steps.specs.declared.Period.the-variants.{Day, Night}
+use Rattle.figures.specs.declared.Period.{Period}
+use Rattle.figures.specs.declared.Period.the-variants.{Day, Night}
 use Rattle.study.specs.Levels.{limitOf, metBy}
 
 some-limit : (p : Period) → 1 ≤ limitOf p

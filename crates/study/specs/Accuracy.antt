@@ -10,12 +10,13 @@ use lib.Signed.{_≤ℤ_, _<ℤ_}
 use Rattle.decibel.specs.Round.{micro}
 use Rattle.decibel.specs.declared.Level.the-variants.{Figure}
 use Rattle.energy.specs.Energy.{added, BareLevel}
-use Rattle.steps.specs.declared.Period.{Period}
-use Rattle.steps.specs.declared.Period.the-variants.{Day, Night}
-use Rattle.steps.specs.Entry.{sounds, entryFence}
+use Rattle.figures.specs.declared.Period.{Period}
+use Rattle.figures.specs.declared.Period.the-variants.{Day, Night}
+use Rattle.emission.specs.Trains.{sounds}
+use Rattle.study.specs.Entry.{entryFence}
 use Rattle.study.specs.declared.Entry.{Entry}
 use Rattle.study.specs.declared.request.PeriodResult.{PeriodResult}
-use Rattle.steps.specs.declared.Check.the-variants.{Accepted}
+use Rattle.figures.specs.declared.Check.the-variants.{Accepted}
 use Rattle.study.specs.declared.request.Answer.{Answer}
 use Rattle.study.specs.Plan.{Plan, segmentAt, planOf}
 use Rattle.study.specs.Add.{Limits}

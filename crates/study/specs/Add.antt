@@ -4,13 +4,14 @@ use mathlib.Core.Bool.{Bool, not}
 use Prim.Native.Nat.{ℕ, _+_, _-_}
 use lib.Dec.{leb, eqb}
 use lib.ListN.{set}
-use Rattle.steps.specs.declared.Segment.{Segment}
-use Rattle.steps.specs.declared.Train.{Train}
-use Rattle.steps.specs.declared.Refusal.the-variants.{NoSegment, SegmentLimit, EntryLimit}
-use Rattle.steps.specs.declared.Check.{Check}
-use Rattle.steps.specs.declared.Check.the-variants.{Accepted, Refused}
-use Rattle.steps.specs.Refusal.{unless, firstRefused}
-use Rattle.steps.specs.Rules.{segmentCheck, trainCheck}
+use Rattle.figures.specs.declared.Segment.{Segment}
+use Rattle.figures.specs.declared.Train.{Train}
+use Rattle.figures.specs.declared.Refusal.the-variants.{NoSegment, SegmentLimit, EntryLimit}
+use Rattle.figures.specs.declared.Check.{Check}
+use Rattle.figures.specs.declared.Check.the-variants.{Accepted, Refused}
+use Rattle.figures.specs.Refusal.{unless, firstRefused}
+use Rattle.figures.specs.Rules.{trainCheck}
+use Rattle.propagation.specs.Check.{segmentCheck}
 use Rattle.study.specs.declared.Study.{Study}
 use Rattle.study.specs.declared.Added.{Added}
 

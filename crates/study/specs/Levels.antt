@@ -13,13 +13,15 @@ use Rattle.decibel.specs.declared.Level.the-variants.{Silent, Figure}
 use Rattle.energy.specs.declared.Total.{Total}
 use Rattle.energy.specs.Total.{totalBy, TotalMark, silentCell}
 use Rattle.energy.specs.Mark.{totalMark}
-use Rattle.steps.specs.declared.Segment.{Segment}
-use Rattle.steps.specs.declared.Period.{Period}
-use Rattle.steps.specs.declared.Period.the-variants.{Day, Night}
-use Rattle.steps.specs.Refusal.{isAccepted}
-use Rattle.steps.specs.Rules.{segmentCheck}
-use Rattle.steps.specs.Ground.{SegmentMark}
-use Rattle.steps.specs.Entry.{emissionOf, propagationOf, levelBy}
+use Rattle.figures.specs.declared.Segment.{Segment}
+use Rattle.figures.specs.declared.Period.{Period}
+use Rattle.figures.specs.declared.Period.the-variants.{Day, Night}
+use Rattle.figures.specs.Refusal.{isAccepted}
+use Rattle.propagation.specs.Check.{segmentCheck}
+use Rattle.propagation.specs.Ground.{SegmentMark}
+use Rattle.propagation.specs.Propagation.{propagationOf}
+use Rattle.emission.specs.Emission.{emissionOf}
+use Rattle.study.specs.Entry.{levelBy}
 use Rattle.study.specs.declared.Entry.{Entry}
 use Rattle.study.specs.declared.request.PeriodResult.{PeriodResult}
 use Rattle.study.specs.Plan.{Plan, segmentAt}

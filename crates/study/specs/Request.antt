@@ -8,13 +8,13 @@ use lib.Dec.{leb, ltb}
 use lib.IntN.{ℤ}
 use lib.ListN.{length, drop}
 use Rattle.decibel.specs.declared.Level.the-variants.{Silent}
-use Rattle.steps.specs.declared.Period.{Period}
-use Rattle.steps.specs.declared.Period.the-variants.{Day, Night}
-use Rattle.steps.specs.declared.Refusal.{Refusal}
-use Rattle.steps.specs.declared.Refusal.the-variants.{NoEntry, FewCells}
-use Rattle.steps.specs.declared.Check.{Check}
-use Rattle.steps.specs.declared.Check.the-variants.{Accepted, Refused}
-use Rattle.steps.specs.Refusal.{unless}
+use Rattle.figures.specs.declared.Period.{Period}
+use Rattle.figures.specs.declared.Period.the-variants.{Day, Night}
+use Rattle.figures.specs.declared.Refusal.{Refusal}
+use Rattle.figures.specs.declared.Refusal.the-variants.{NoEntry, FewCells}
+use Rattle.figures.specs.declared.Check.{Check}
+use Rattle.figures.specs.declared.Check.the-variants.{Accepted, Refused}
+use Rattle.figures.specs.Refusal.{unless}
 use Rattle.study.specs.declared.Study.{Study}
 use Rattle.study.specs.declared.request.PeriodResult.{PeriodResult}
 use Rattle.study.specs.declared.request.Answer.{Answer}

@@ -1,15 +1,19 @@
 // A study: segments and train entries, added one after another and refused where document 01 says so.
-pub mod request;
+mod request;
+
+pub use request::Answer;
+pub use request::PeriodResult;
+pub use request::levels;
 
 ghost use mathlib.Core.Path.{_≡_};
 ghost use Prim.Native.Nat.{min};
 ghost use Rattle.study.specs.Plan.{noSegment, noEntry, emptyStudy, planOf};
 ghost use Rattle.study.specs.Add.{ours, segmentLimit, segmentAnswer, trainLimit, trainAnswer, addSegment, addTrain};
 ghost use Rattle.study.specs.Run.{run, listed};
-use steps::Check;
-use steps::Refusal;
-use steps::Segment;
-use steps::Train;
+use figures::Check;
+use figures::Refusal;
+use figures::Segment;
+use figures::Train;
 
 // How many segments, and how many train entries in all, a study may hold.
 pub const MOST_SEGMENTS: usize = 24;
@@ -99,7 +103,7 @@ pub fn segment_answer(count: usize, segment: Segment) -> Check
     ensures { λ r. ⌜ r ≡ segmentAnswer ours count segment ⌝ }
 {
     let limit = segment_limit(count);
-    steps::first_refused(limit, steps::checks::segment_check(segment))
+    figures::first_refused(limit, propagation::segment_check(segment))
 }
 
 // The study with the segment after its last, or the refusal and the study as it was.
@@ -133,7 +137,7 @@ pub fn train_answer(count: usize, total: usize, train: Train) -> Check
     ensures { λ r. ⌜ r ≡ trainAnswer ours count total train ⌝ }
 {
     let limit = train_limit(count, total);
-    steps::first_refused(limit, steps::checks::train_check(train))
+    figures::first_refused(limit, figures::ranges::train_check(train))
 }
 
 // The study with the train at its last segment, or the refusal and the study as it was.

@@ -1,27 +1,25 @@
 // The request for levels: each entry's level in the working cells, and both periods' results.
 ghost use mathlib.Core.Path.{_≡_};
 ghost use mathlib.Core.Bool.{cond};
-ghost use mathlib.Core.List.{map};
-ghost use Prim.Native.Nat.{_*_, _-_, _≤_};
+ghost use Prim.Native.Nat.{_+_, _*_, _-_, _≤_};
 ghost use lib.IntN.{pos};
 ghost use lib.ListN.{length, getD};
-ghost use Rattle.decibel.specs.Tables;
-ghost use Rattle.energy.specs.Parts;
-ghost use Rattle.steps.specs.Entry.{raised};
-ghost use Rattle.steps.specs.Parts.{Below, SmallLevel};
+ghost use lib.Seq.{paste};
+ghost use Rattle.figures.specs.Bounds.{Below};
+ghost use Rattle.emission.specs.Emission.{raised};
+ghost use Rattle.emission.specs.Results.{SmallLevel};
 ghost use Rattle.study.specs.Plan.{planOf};
-ghost use Rattle.study.specs.Levels.{cellOf, levelsOf, limitOf, metBy, resultBy, groundMarks, ownMarks};
+ghost use Rattle.study.specs.Levels.{cellOf, limitOf, metBy, ownMarks};
 ghost use Rattle.study.specs.Request.{Answered, answerBy, refusedBy, cellsNeeded, cellsAnswered};
-ghost use Rattle.study.specs.Parts.{noPropagation, Propagated, SegmentsHeard, CloseCount, Enough, markedBy};
+ghost use Rattle.study.specs.Private.{Blank, TenthsFound, Propagated, Filled, SegmentsHeard, CloseCount, Enough, markedBy, periodFrom};
 use crate::MOST_ENTRIES;
 use crate::MOST_SEGMENTS;
 use crate::Study;
 use crate::at_most;
 use decibel::Level;
-use steps::Check;
-use steps::Period;
-use steps::Propagation;
-use steps::Refusal;
+use figures::Check;
+use figures::Period;
+use figures::Refusal;
 
 // What a working cell (01's term) holds of an entry that has no trains in the period.
 const SILENT_CELL: i32 = -9999;
@@ -48,39 +46,35 @@ pub struct Answer {
     pub night: PeriodResult,
 }
 
-// What each of the study's segments adds to the level of its entries; nothing at the places past them.
-fn propagations_of(tables: &[u64], study: Study) -> [Propagation; MOST_SEGMENTS]
-    requires { ⌜ Tables.Tables (now tables) ⌝ }
-    ensures { λ r. ⌜ Propagated (planOf study) r ⌝ }
+// Writes what each of the study's segments adds to the level of its entries, and its close mark; nothing at the places past them.
+fn propagate(study: Study, tenths: &mut [i32], close: &mut [bool])
+    requires { ⌜ Blank (now tenths) (now close) ⌝ }
+    ensures { λ _. ⌜ Propagated (planOf study) (now (tenths .exit)) (now (close .exit)) ⌝ }
 {
     let count = at_most(study.count, MOST_SEGMENTS);
-    let mut found = [Propagation {
-        tenths: 0,
-        close: false,
-    }; MOST_SEGMENTS];
     let mut k: usize = 0;
     while k < count {
         let segment = study.segments[k];
-        found[k] = steps::propagate::propagation_of(tables, segment);
+        let found = propagation::propagation_of(segment);
+        tenths[k] = found.tenths;
+        close[k] = found.close;
         k += 1;
     }
-    found
 }
 
 // What the segment at a place adds.
-fn tenths_at(found: [Propagation; MOST_SEGMENTS], k: usize) -> i32
-    ensures { λ r. ⌜ r ≡ getD found k noPropagation .tenths ⌝ }
+fn tenths_at(tenths: &[i32], k: usize) -> i32
+    ensures { λ r. ⌜ r ≡ getD (now (tenths .entry)) k (pos 0) ⌝ }
 {
-    if k < MOST_SEGMENTS {
-        let propagation = found[k];
-        return propagation.tenths;
+    if k < tenths.len() {
+        return tenths[k];
     }
     0
 }
 
 // An entry's level as its working cell holds it, from what its segment adds and what its train emits.
 fn cell_of(tenths: i32, emission: Level) -> i32
-    requires { ⌜ Below 20000 tenths × SmallLevel emission ⌝ }
+    requires { ⌜ Below 20000 tenths × SmallLevel 10000 emission ⌝ }
     ensures { λ r. ⌜ r ≡ cellOf (raised tenths emission) ⌝ }
 {
     match emission {
@@ -89,23 +83,29 @@ fn cell_of(tenths: i32, emission: Level) -> i32
     }
 }
 
-// Writes both periods' levels into the cells in one pass: a train's speed, vehicles and row serve both.
-fn fill(tables: &[u64], study: Study, found: [Propagation; MOST_SEGMENTS], cells: &mut [i32])
-    requires { ⌜ Tables.Tables (now tables) ⌝ }
-    requires { ⌜ Propagated (planOf study) found ⌝ }
-    requires { ⌜ cellsNeeded (length (planOf study .entries)) ≤ length (now cells) ⌝ }
-    ensures { λ _. ⌜ now (cells .exit) ≡ cellsAnswered (planOf study) (ownMarks (planOf study)) (now (cells .entry)) ⌝ }
+// Writes both periods' levels, and each entry's segment, in one pass: a train's speed, vehicles and row serve both.
+fn fill(
+    study: Study,
+    tenths: &[i32],
+    day: &mut [i32],
+    night: &mut [i32],
+    places: &mut [usize],
+)
+    requires { ⌜ TenthsFound (planOf study) (now tenths) ⌝ }
+    requires { ⌜ (length (now day) ≡ 96) × ((length (now night) ≡ 96) × (length (now places) ≡ 96)) ⌝ }
+    ensures { λ _. ⌜ Filled (planOf study) (now (day .exit)) (now (night .exit)) (now (places .exit)) ⌝ }
 {
     let total = at_most(study.total, MOST_ENTRIES);
     let mut at: usize = 0;
     while at < total {
         let entry = study.entries[at];
-        let emissions = steps::emit::emissions_of(tables, entry.train);
-        let day = emissions.day;
-        let night = emissions.night;
-        let tenths = tenths_at(found, entry.segment);
-        cells[at] = cell_of(tenths, day);
-        cells[total + at] = cell_of(tenths, night);
+        let emissions = emission::emissions_of(entry.train);
+        let by_day = emissions.day;
+        let by_night = emissions.night;
+        let base = tenths_at(tenths, entry.segment);
+        day[at] = cell_of(base, by_day);
+        night[at] = cell_of(base, by_night);
+        places[at] = entry.segment;
         at += 1;
     }
 }
@@ -119,17 +119,15 @@ fn mark(heard: &mut [bool], k: usize, sounds: bool)
     }
 }
 
-// Which segments have an entry whose cell holds a level.
-fn heard_segments(study: Study, levels: &[i32]) -> [bool; MOST_SEGMENTS]
-    requires { ⌜ length (planOf study .entries) ≡ length (now levels) ⌝ }
-    ensures { λ r. ⌜ SegmentsHeard (planOf study .entries) (now (levels .entry)) r ⌝ }
+// Which segments have an entry with a level, by the entries' segments.
+fn heard_segments(places: &[usize], levels: &[i32]) -> [bool; MOST_SEGMENTS]
+    requires { ⌜ length (now places) ≡ length (now levels) ⌝ }
+    ensures { λ r. ⌜ SegmentsHeard (now (places .entry)) (now (levels .entry)) r ⌝ }
 {
-    let total = at_most(study.total, MOST_ENTRIES);
     let mut heard = [false; MOST_SEGMENTS];
     let mut i: usize = 0;
-    while i < total {
-        let entry = study.entries[i];
-        mark(&mut heard, entry.segment, LEAST_LEVEL <= levels[i]);
+    while i < levels.len() {
+        mark(&mut heard, places[i], LEAST_LEVEL <= levels[i]);
         i += 1;
     }
     heard
@@ -143,17 +141,17 @@ fn one(test: bool) -> u32
 }
 
 // How many segments are heard and marked as close.
-fn close_count(found: [Propagation; MOST_SEGMENTS], heard: [bool; MOST_SEGMENTS]) -> u32
-    ensures { λ r. ⌜ CloseCount found heard r ⌝ }
+fn close_count(close: &[bool], heard: [bool; MOST_SEGMENTS]) -> u32
+    requires { ⌜ length (now close) ≡ 24 ⌝ }
+    ensures { λ r. ⌜ CloseCount (now (close .entry)) heard r ⌝ }
 {
-    let mut close: u32 = 0;
+    let mut count: u32 = 0;
     let mut k: usize = 0;
     while k < MOST_SEGMENTS {
-        let propagation = found[k];
-        close += one(propagation.close & heard[k]);
+        count += one(close[k] & heard[k]);
         k += 1;
     }
-    close
+    count
 }
 
 // The tenths from which a level meets the period's limit.
@@ -176,26 +174,18 @@ fn is_met(period: Period, level: Level) -> bool
     }
 }
 
-// A period's result from its levels in working cells.
-fn period_of(
-    weights: &[u64],
-    study: Study,
-    found: [Propagation; MOST_SEGMENTS],
-    period: Period,
-    levels: &[i32],
-) -> PeriodResult
-    requires { ⌜ Parts.Tables (now weights) ⌝ }
-    requires { ⌜ Propagated (planOf study) found ⌝ }
-    requires { ⌜ now levels ≡ map cellOf (levelsOf period (planOf study) (groundMarks (planOf study))) ⌝ }
-    ensures { λ r. ⌜ r ≡ resultBy period (planOf study) (ownMarks (planOf study)) ⌝ }
+// A period's result from its entries' levels and segments, and the segments' close marks.
+fn period_of(period: Period, levels: &[i32], places: &[usize], close: &[bool]) -> PeriodResult
+    requires { ⌜ (length (now levels) ≤ 96) × ((length (now places) ≡ length (now levels)) × (length (now close) ≡ 24)) ⌝ }
+    ensures { λ r. ⌜ r ≡ periodFrom period (now (levels .entry)) (now (places .entry)) (now (close .entry)) ⌝ }
 {
-    let total = energy::total_of(weights, levels);
-    let heard = heard_segments(study, levels);
-    let close = close_count(found, heard) + one(total.close);
+    let total = energy::total_of(levels);
+    let heard = heard_segments(places, levels);
+    let count = close_count(close, heard) + one(total.close);
     let level = total.level;
     PeriodResult {
         level: level,
-        close: close,
+        close: count,
         met: is_met(period, level),
     }
 }
@@ -216,20 +206,44 @@ fn refusal_answer(refusal: Refusal) -> Answer
     }
 }
 
+// Writes the levels into the cells from a place on.
+fn write(levels: &[i32], cells: &mut [i32], at: usize)
+    requires { ⌜ at + length (now levels) ≤ length (now cells) ⌝ }
+    ensures { λ _. ⌜ now (cells .exit) ≡ paste (now (cells .entry)) at (now (levels .entry)) (length (now (levels .entry))) ⌝ }
+{
+    let mut i: usize = 0;
+    while i < levels.len() {
+        cells[at + i] = levels[i];
+        i += 1;
+    }
+}
+
+// How many working cells so many entries need.
+fn cells_needed(total: usize) -> usize
+    requires { ⌜ total ≤ 96 ⌝ }
+    ensures { λ r. ⌜ r ≡ cellsNeeded total ⌝ }
+{
+    total + total
+}
+
 // The levels in the cells and both results, with `total` entries and cells enough.
 fn answered(study: Study, total: usize, cells: &mut [i32]) -> Answer
     requires { ⌜ Enough (planOf study .entries) total (now cells) ⌝ }
     ensures { λ r. ⌜ (now (cells .exit) ≡ cellsAnswered (planOf study) (ownMarks (planOf study)) (now (cells .entry))) × (r ≡ answerBy Check.Accepted (planOf study) (ownMarks (planOf study))) ⌝ }
 {
-    let tables = decibel::tables();
-    let weights = energy::tables();
-    let found = propagations_of(&tables, study);
-    fill(&tables, study, found, cells);
-    let end = total + total;
+    let mut tenths = [0i32; MOST_SEGMENTS];
+    let mut close = [false; MOST_SEGMENTS];
+    propagate(study, &mut tenths, &mut close);
+    let mut day = [0i32; MOST_ENTRIES];
+    let mut night = [0i32; MOST_ENTRIES];
+    let mut places = [0usize; MOST_ENTRIES];
+    fill(study, &tenths, &mut day, &mut night, &mut places);
+    write(&day[..total], cells, 0);
+    write(&night[..total], cells, total);
     Answer {
         check: Check::Accepted,
-        day: period_of(&weights, study, found, Period::Day, &cells[..total]),
-        night: period_of(&weights, study, found, Period::Night, &cells[total..end]),
+        day: period_of(Period::Day, &day[..total], &places[..total], &close),
+        night: period_of(Period::Night, &night[..total], &places[..total], &close),
     }
 }
 
@@ -241,7 +255,7 @@ pub fn levels(study: Study, cells: &mut [i32]) -> Answer
     if total == 0 {
         return refusal_answer(Refusal::NoEntry);
     }
-    if cells.len() < total + total {
+    if cells.len() < cells_needed(total) {
         return refusal_answer(Refusal::FewCells);
     }
     answered(study, total, cells)

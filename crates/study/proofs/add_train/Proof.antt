@@ -3,7 +3,7 @@
 use borrow.Author.Needs.{needs}
 use native.Mathlib.Omega.{arith}
 use mathlib.Core.Path.{_≡_, sym, _∙_}
-use Rattle.steps.specs.declared.Check.the-variants.{Accepted}
+use Rattle.figures.specs.declared.Check.the-variants.{Accepted}
 use Rattle.study.specs.Add.{ours, trainAnswer, addTrain, withTrain}
 use Rattle.study.proofs.Additions.{refused-keeps, accepted-takes, train-taken}
 use Rattle.study.proofs.add_train.Statement.{statement}

@@ -7,7 +7,7 @@ use mathlib.Core.Path.{sym, _∙_}
 use mathlib.Core.Logic.{⊎-elim}
 use mathlib.Core.List.{List}
 use lib.ListN.{length}
-use Rattle.steps.specs.declared.Segment.{Segment}
+use Rattle.figures.specs.declared.Segment.{Segment}
 use Rattle.study.specs.declared.Entry.{Entry}
 use Rattle.study.specs.declared.Study.{Study}
 use Rattle.study.specs.Plan.{planOf}

@@ -7,7 +7,7 @@ use native.Mathlib.Numerals.{add-one}
 use mathlib.Core.Bool.{false, _&&_}
 use mathlib.Core.Path.{_≡_, refl}
 use lib.ListN.{getD}
-use Rattle.study.specs.Parts.{noPropagation, countTo}
+use Rattle.study.specs.Private.{noPropagation, countTo}
 use Rattle.study.proofs.request.close_count.Statement.{statement}
 use Rattle.study.proofs.request.close_count.Tie as tie
 

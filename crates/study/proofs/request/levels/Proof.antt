@@ -4,7 +4,7 @@ use borrow.Author.Needs.{needs}
 use native.Mathlib.Omega.{arith}
 use mathlib.Core.Path.{sym, _∙_}
 use lib.ListN.{length}
-use Rattle.steps.specs.declared.Refusal.the-variants.{NoEntry, FewCells}
+use Rattle.figures.specs.declared.Refusal.the-variants.{NoEntry, FewCells}
 use Rattle.study.specs.Plan.{planOf}
 use Rattle.study.proofs.Sizes.{plan-total, few-entries}
 use Rattle.study.proofs.Answers.{no-entries, few-cells, enough-cells, refused-answer, accepted-answer}

@@ -3,7 +3,7 @@
 use borrow.Author.Needs.{needs}
 use mathlib.Core.Path.{refl, sym}
 use lib.Seq.{set-out}
-use Rattle.study.specs.Parts.{markedBy}
+use Rattle.study.specs.Private.{markedBy}
 use Rattle.study.proofs.request.mark.Statement.{statement}
 use Rattle.study.proofs.request.mark.Tie as tie
 

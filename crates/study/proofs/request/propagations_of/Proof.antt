@@ -6,7 +6,7 @@ use Prim.Native.Nat.{_≤_, _-_}
 use mathlib.Core.Path.{_≡_, sym, ap, _∙_}
 use lib.ListN.{length}
 use Rattle.study.specs.Plan.{planOf}
-use Rattle.steps.specs.Entry.{propagationOf}
+use Rattle.propagation.specs.Propagation.{propagationOf}
 use Rattle.study.proofs.Sizes.{plan-count, plan-segment}
 use Rattle.study.proofs.Found.{FoundTo, found-none, found-more, found-all}
 use Rattle.study.proofs.request.propagations_of.Statement.{statement}

@@ -4,7 +4,7 @@ use borrow.Author.Needs.{needs}
 use native.Mathlib.Omega.{arith}
 use Prim.Native.Nat.{_≤_}
 use lib.ListN.{length, List·getD-eq-default}
-use Rattle.study.specs.Parts.{noPropagation}
+use Rattle.study.specs.Private.{noPropagation}
 use Rattle.study.proofs.request.tenths_at.Statement.{statement}
 use Rattle.study.proofs.request.tenths_at.Tie as tie
 

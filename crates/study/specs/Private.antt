@@ -1,0 +1,83 @@
+-- What contracts of this crate's private functions cite: the parts of a request for levels.
+-- Assumes nothing.
+use mathlib.Core.Path.{_≡_}
+use mathlib.Core.Bool.{Bool, false, cond, _&&_, _||_}
+use mathlib.Core.List.{List, [], _∷_, map}
+use Prim.Native.Nat.{ℕ, zero, suc, _+_, _≤_, _<_}
+use lib.Dec.{eqb}
+use lib.IntN.{ℤ, pos, negsuc}
+use lib.Signed.{leZ}
+use lib.ListN.{length, getD, set, take, replicate}
+use Rattle.energy.specs.Total.{heard}
+use Rattle.energy.specs.Mark.{totalOf}
+use Rattle.figures.specs.declared.Period.{Period}
+use Rattle.figures.specs.declared.Period.the-variants.{Day, Night}
+use Rattle.figures.specs.Bounds.{Below}
+use Rattle.propagation.specs.Propagation.{propagationOf}
+use Rattle.study.specs.declared.Entry.{Entry}
+use Rattle.study.specs.declared.request.PeriodResult.{PeriodResult}
+use Rattle.study.specs.Plan.{Plan, segmentAt}
+use Rattle.study.specs.Levels.{levelsOf, groundMarks, cellOf, resultFrom}
+use Rattle.study.specs.Request.{cellsNeeded}
+
+-- places in which nothing stands yet
+pub record Blank (tenths : List ℤ) (close : List Bool) : Type 0 where
+  pub tenths : tenths ≡ replicate 24 (pos 0)
+  pub close : close ≡ replicate 24 false
+
+-- each segment's tenths stand at its place, and none past them
+pub record TenthsFound (plan : Plan) (tenths : List ℤ) : Type 0 where
+  pub each : (k : ℕ) → getD tenths k (pos 0) ≡ propagationOf (segmentAt plan k) .tenths
+  pub small : (k : ℕ) → Below 20000 (getD tenths k (pos 0))
+
+-- and each segment's close mark
+pub record Propagated (plan : Plan) (tenths : List ℤ) (close : List Bool) : Type 0 where
+  pub tenths : TenthsFound plan tenths
+  pub close : (k : ℕ) → getD close k false ≡ propagationOf (segmentAt plan k) .close
+
+-- a period's levels as working cells hold them
+abbrev pub cellsOf : Period → Plan → List ℤ
+cellsOf p plan = map cellOf (levelsOf p plan (groundMarks plan))
+
+abbrev pub placesOf : List Entry → List ℕ
+placesOf es = map (λ (e : Entry). e .segment) es
+
+-- the first places hold both periods' levels and the entries' segments
+pub record Filled (plan : Plan) (day night : List ℤ) (places : List ℕ) : Type 0 where
+  pub day : take (length (plan .entries)) day ≡ cellsOf Day plan
+  pub night : take (length (plan .entries)) night ≡ cellsOf Night plan
+  pub places : take (length (plan .entries)) places ≡ placesOf (plan .entries)
+
+-- the list with place k marked if it was, or if b holds; a place past the end changes nothing
+unfoldable pub markedBy : List Bool → ℕ → Bool → List Bool
+markedBy heard k b = set heard k (getD heard k false || b)
+
+-- some entry of segment k has a level: one of -200 dB or more, which no silent cell holds
+unfoldable pub soundsAt : ℕ → List ℕ → List ℤ → Bool
+soundsAt k [] cells = false
+soundsAt k (e ∷ es) [] = false
+soundsAt k (e ∷ es) (c ∷ cs) = (eqb e k && leZ (negsuc 1999) c) || soundsAt k es cs
+
+-- which of the 24 places are those of segments that are heard
+pub record SegmentsHeard (places : List ℕ) (cells : List ℤ) (heard : List Bool) : Type 0 where
+  pub each : (k : ℕ) → k < 24 → getD heard k false ≡ soundsAt k places cells
+
+-- how many numbers below n pass a test
+unfoldable pub countTo : (ℕ → Bool) → ℕ → ℕ
+countTo f zero = 0
+countTo f (suc n) = countTo f n + cond (f n) 1 0
+
+-- how many of the 24 places are close and heard
+pub record CloseCount (close heard : List Bool) (r : ℕ) : Type 0 where
+  pub is : r ≡ countTo (λ k. getD close k false && getD heard k false) 24
+  pub most : r ≤ 24
+
+-- a period's result from its levels, the entries' segments and the segments' close marks
+unfoldable pub periodFrom : Period → List ℤ → List ℕ → List Bool → PeriodResult
+periodFrom p levels places close = resultFrom p (totalOf (heard levels)) (countTo (λ k. getD close k false && soundsAt k places levels) 24)
+
+-- so many entries, and cells enough
+pub record Enough (entries : List Entry) (total : ℕ) (cells : List ℤ) : Type 0 where
+  pub is : total ≡ length entries
+  pub most : total ≤ 96
+  pub room : cellsNeeded total ≤ length cells
