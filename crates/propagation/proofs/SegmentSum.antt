@@ -18,7 +18,7 @@ use Rattle.figures.specs.Refusal.{isAccepted}
 use Rattle.figures.specs.Rules.{within}
 use Rattle.figures.specs.Bounds.{Below, Signed, Exactly, ReadingsRanged}
 use Rattle.figures.proofs.Signs.{read, below-more, below-back, natural-below, from-below, signed-below, returned, exactly-read, Sum, summand, added, summed}
-use Rattle.figures.proofs.Lies.{lies-add, lies-within, lies-from, lies-micro}
+use Rattle.figures.proofs.Lies.{lies-add, lies-within, lies-from, lies-micro, near-lies}
 use Rattle.propagation.specs.declared.SegmentBreakdown.{SegmentBreakdown}
 use Rattle.propagation.specs.declared.Propagation.{Propagation}
 use Rattle.propagation.specs.Distance.{distanceFence}
@@ -241,3 +241,14 @@ accepted-tenths s mark e = ap addedUp (sym (accepted-breakdown s mark e))
 pub refused-tenths : (s : Segment) (mark : Bool) {k : Refusal} → segmentCheck s ≡ Refused k → addedUp (segmentBreakdownBy s mark) ≡ pos 0
 unfolding addedUp noSegmentParts
 refused-tenths s mark e = ap addedUp (sym (refused-breakdown s mark e))
+
+-- for every segment it is small
+pub propagation-small : (s : Segment) → Below 20000 (propagationOf s .tenths)
+unfolding propagationOf segmentBreakdownOf
+propagation-small s = go (segmentCheck s) refl
+  where
+    go : (c : Check) → segmentCheck s ≡ c → Below 20000 (addedUp (segmentBreakdownBy s (groundMark s)))
+    go Accepted e =
+        let l = near-lies 1000 1000 (segmentTenths s (groundMark s)) (segmentFence s) (lit≤ tt) (lit≤ tt) (near-segment s (groundMark s)) (segment-lies s (ranges s e)) in
+        rw (accepted-tenths s (groundMark s) e) (signed-below (lit< tt) (lit< tt) l)
+    go (Refused k) e = rw (refused-tenths s (groundMark s) e) (natural-below (lit< tt))

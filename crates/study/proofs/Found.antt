@@ -97,4 +97,5 @@ found-all plan k e t c small =
     record {
       tenths = record { each = each; small = λ j. rw (each j) (small j) };
       close = filled-each false (closeOf plan) k c (λ j h. ap (λ (p : Propagation). p .close) (no-segment-adds plan j (omega arith)));
+      size = c .size;
     }

@@ -1,31 +1,39 @@
--- A period's result from its cells, and the marks that it rests on, which 01 allows.
+-- A period's result from its levels, and the marks that it rests on, which 01 allows.
 -- Assumes nothing.
-use mathlib.Core.Path.{_≡_, refl, sym, ap, _∙_, subst}
-use mathlib.Core.Bool.{Bool, cond}
-use mathlib.Core.List.{List, map}
+use mathlib.Core.Path.{_≡_, refl, sym, ap, ap₂, _∙_, subst}
+use mathlib.Core.Bool.{Bool, false, cond, _&&_}
 use Prim.Native.Nat.{ℕ, _+_, _≤_}
 use native.Mathlib.Omega.{arith}
 use lib.IntN.{ℤ}
-use lib.ListN.{length, take}
+use lib.ListN.{length, getD, take}
 use lib.Seq.{take-all}
+use mathlib.Core.List.{List, map}
 use Rattle.energy.specs.declared.Total.{Total}
-use Rattle.energy.specs.Total.{heard, TotalMark}
+use Rattle.energy.specs.Total.{heard, totalBy, TotalMark}
 use Rattle.energy.specs.Mark.{totalMark, totalOf}
 use Rattle.energy.proofs.Named.{total-allowed}
-use Rattle.propagation.specs.declared.Propagation.{Propagation}
 use Rattle.figures.specs.declared.Period.{Period}
 use Rattle.figures.specs.declared.Period.the-variants.{Day, Night}
 use Rattle.propagation.specs.Ground.{SegmentMark}
+use Rattle.propagation.specs.Propagation.{propagationOf}
+use Rattle.propagation.proofs.SegmentSum.{own-mark-allowed}
 use Rattle.study.specs.declared.request.PeriodResult.{PeriodResult}
 use Rattle.study.specs.Plan.{Plan, segmentAt}
-use Rattle.study.specs.Levels.{levelsOf, levelAt, figures, totalMarkIn, groundMarks, ownMarks, closeSegments, metBy, resultFrom, resultBy, MarksAllowed}
-use Rattle.study.specs.Private.{noPropagation, Propagated, SegmentsHeard, CloseCount}
-use Rattle.propagation.proofs.SegmentSum.{own-mark-allowed}
-use Rattle.study.proofs.Cells.{cellsOf, cells-length}
+use Rattle.study.specs.Levels.{levelsOf, levelAt, figures, totalMarkIn, groundMarks, ownMarks, metBy, resultFrom, resultBy, MarksAllowed}
+use Rattle.study.specs.Private.{cellsOf, placesOf, soundsAt, SegmentsHeard, CloseCount, periodFrom}
 use Rattle.study.proofs.Totals.{figures-kept, figures-few, cells-heard, cells-sound}
-use Rattle.study.proofs.Counts.{own-marks, close-found}
+use Rattle.study.proofs.Counts.{count-same, own-marks, close-found}
 
 -- ---- a period's result
+
+-- as the code works it out
+pub period-from : (p : Period) {levels : List ℤ} {places : List ℕ} {close segments : List Bool} {t : Total} {count one : ℕ} {met : Bool} → length levels ≤ 96 → t ≡ totalOf (heard (take 96 levels)) → SegmentsHeard places levels segments → CloseCount close segments count
+    → one ≡ cond (t .close) 1 0 → met ≡ metBy p (t .level) → _≡_ {A = PeriodResult} (record { level = t .level; close = count + one; met = met }) (periodFrom p levels places close)
+unfolding periodFrom resultFrom
+period-from p {levels} {places} {close} {segments} {t} few total sounds count o m =
+    let same = total ∙ ap (λ (cs : List ℤ). totalOf (heard cs)) (take-all 96 levels few) in
+    let counted = count .is ∙ count-same (λ k. getD close k false && getD segments k false) (λ k. getD close k false && soundsAt k places levels) 24 (λ k h. ap (λ (b : Bool). getD close k false && b) (sounds .each k h)) in
+    rw (o, m, same, counted)
 
 module _ (p : Period) (plan : Plan) where
   own-total : totalMarkIn p (ownMarks plan) ≡ totalMark (figures (levelsOf p plan (groundMarks plan)))
@@ -56,7 +64,7 @@ own-total-mark p plan few =
 
 -- 01 allows the program's own marks
 pub own-allowed : (plan : Plan) → length (plan .entries) ≤ 96 → MarksAllowed plan (ownMarks plan)
-unfolding ownMarks levelsOf levelAt
+unfolding ownMarks levelsOf levelAt propagationOf
 own-allowed plan few =
     record {
       grounds = λ k h. subst (SegmentMark (segmentAt plan k)) (sym (own-marks plan k)) (own-mark-allowed (segmentAt plan k));

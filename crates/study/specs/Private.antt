@@ -21,9 +21,9 @@ use Rattle.study.specs.Levels.{levelsOf, groundMarks, cellOf, resultFrom
 use Rattle.study.specs.Request.{cellsNeeded}
 
 -- places in which nothing stands yet
-pub record Blank (tenths : List ℤ) (close : List Bool) : Type 0 where
-  pub tenths : tenths ≡ replicate 24 (pos 0)
-  pub close : close ≡ replicate 24 false
+pub record Blank (ts : List ℤ) (cs : List Bool) : Type 0 where
+  pub tenths : ts ≡ replicate 24 (pos 0)
+  pub close : cs ≡ replicate 24 false
 
 -- each segment's tenths stand at its place, and none past them
 pub record TenthsFound (plan : Plan) (tenths : List ℤ) : Type 0 where
@@ -31,9 +31,10 @@ pub record TenthsFound (plan : Plan) (tenths : List ℤ) : Type 0 where
   pub small : (k : ℕ) → Below 20000 (getD tenths k (pos 0))
 
 -- and each segment's close mark
-pub record Propagated (plan : Plan) (tenths : List ℤ) (close : List Bool) : Type 0 where
-  pub tenths : TenthsFound plan tenths
-  pub close : (k : ℕ) → getD close k false ≡ propagationOf (segmentAt plan k) .close
+pub record Propagated (plan : Plan) (ts : List ℤ) (cs : List Bool) : Type 0 where
+  pub tenths : TenthsFound plan ts
+  pub close : (k : ℕ) → getD cs k false ≡ propagationOf (segmentAt plan k) .close
+  pub size : length cs ≡ 24
 
 -- a period's levels as working cells hold them
 abbrev pub cellsOf : Period → Plan → List ℤ
@@ -43,10 +44,10 @@ abbrev pub placesOf : List Entry → List ℕ
 placesOf es = map (λ (e : Entry). e .segment) es
 
 -- the first places hold both periods' levels and the entries' segments
-pub record Filled (plan : Plan) (day night : List ℤ) (places : List ℕ) : Type 0 where
-  pub day : take (length (plan .entries)) day ≡ cellsOf Day plan
-  pub night : take (length (plan .entries)) night ≡ cellsOf Night plan
-  pub places : take (length (plan .entries)) places ≡ placesOf (plan .entries)
+pub record Filled (plan : Plan) (ds ns : List ℤ) (ps : List ℕ) : Type 0 where
+  pub day : take (length (plan .entries)) ds ≡ cellsOf Day plan
+  pub night : take (length (plan .entries)) ns ≡ cellsOf Night plan
+  pub places : take (length (plan .entries)) ps ≡ placesOf (plan .entries)
 
 -- the list with place k marked if it was, or if b holds; a place past the end changes nothing
 unfoldable pub markedBy : List Bool → ℕ → Bool → List Bool

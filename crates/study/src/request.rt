@@ -56,8 +56,10 @@ fn propagate(study: Study, tenths: &mut [i32], close: &mut [bool])
     while k < count {
         let segment = study.segments[k];
         let found = propagation::propagation_of(segment);
-        tenths[k] = found.tenths;
-        close[k] = found.close;
+        let added = found.tenths;
+        let marked = found.close;
+        tenths[k] = added;
+        close[k] = marked;
         k += 1;
     }
 }
@@ -105,7 +107,8 @@ fn fill(
         let base = tenths_at(tenths, entry.segment);
         day[at] = cell_of(base, by_day);
         night[at] = cell_of(base, by_night);
-        places[at] = entry.segment;
+        let place = entry.segment;
+        places[at] = place;
         at += 1;
     }
 }

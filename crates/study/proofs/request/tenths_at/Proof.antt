@@ -1,17 +1,19 @@
 -- `study::request::tenths_at` meets its contract.
 -- Assumes nothing.
 use borrow.Author.Needs.{needs}
+use mathlib.Core.Path.{sym}
 use native.Mathlib.Omega.{arith}
-use Prim.Native.Nat.{_≤_}
-use lib.ListN.{length, List·getD-eq-default}
-use Rattle.study.specs.Private.{noPropagation}
+use lib.IntN.{pos}
+use lib.ListN.{getD, List·getD-eq-default}
+use Rattle.decibel.proofs.Words.{back}
 use Rattle.study.proofs.request.tenths_at.Statement.{statement}
 use Rattle.study.proofs.request.tenths_at.Tie as tie
 
+returns : tie.Need-returns
+returns c = let a = c .before .before .args in back (getD (a .tenths .now) (a .k) (pos 0)) (c .result .given)
+
 returns-2 : tie.Need-returns-2
-returns-2 c =
-    let h : length (c .before .args .t1) ≤ c .before .args .k = omega arith in
-    rw (List·getD-eq-default (c .before .args .t1) noPropagation h)
+returns-2 c = sym (List·getD-eq-default (c .before .args .tenths .now) (pos 0) (c .if1 .left))
 
 pub tenths-at-spec : {M : Type 1} → statement M
-tenths-at-spec = tie.close (tie.spec (λ c. search needs) (λ c. search needs) (λ c. search needs) returns-2)
+tenths-at-spec = tie.close (tie.spec (λ c. search needs) (λ c. search needs) returns returns-2)
