@@ -1,5 +1,6 @@
 #!/bin/sh
 # Tries the built program on texts: what it writes is compared byte for byte with what document 01 says, and it must end with status 0.
+# Then the command around it, railnoise.sh, is tried by host/command.sh.
 #   host/program.sh [PROGRAM]
 # PROGRAM: by default target/bin/railnoise, as rt check railnoise builds it.
 #
@@ -128,3 +129,5 @@ judge 'standard input closed: as an empty text' "$status" 'refused 13 line 1\n'
 
 echo "$cases cases, $wrong wrong"
 [ "$wrong" -eq 0 ]
+
+"$here/command.sh" "$program"

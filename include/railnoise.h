@@ -47,6 +47,9 @@
 #ifndef RAILNOISE_H
 #define RAILNOISE_H
 
+/* The version, in this one place: railnoise.sh --version and the pkg-config file take it from here. */
+#define RAILNOISE_VERSION "0.1.0"
+
 #include <stdbool.h>
 #include <stddef.h>
 #include <stdint.h>
