@@ -1,11 +1,14 @@
 #!/usr/bin/env python3
-"""Runs the commands that README.md and docs/*.md show and compares what they write with what the page shows.
+"""Tries what the pages and the header show, by the built program: commands, vehicle rows, refused lines.
 
     host/pages.py [--words]
 
-A command is a line `$ ./railnoise.sh ..` in an indented or fenced block; the lines after it, up to the next command or the end of the
-block, are what it writes. Lines that begin with `railnoise: ` belong to standard error; they are compared with --words. Commands run
-at the root of the checkout, by bash; one that takes longer than 10 s is at fault.
+- A command is a line `$ ./railnoise.sh ..` in an indented or fenced block of README.md or docs/*.md; the lines after it, up to the next
+  command or the end of the block, are what it writes. Lines that begin with `railnoise: ` belong to standard error; they are compared
+  with --words. Commands run at the root of the checkout, by bash; one that takes longer than 10 s is at fault.
+- The vehicle rows of docs/PLANNER.md are those of the header, and the program gives each its figure.
+- The refused lines of docs/PLANNER.md, put into docs/studies/entry.txt, give the refusal beside them.
+- The study that docs/PLANNER.md explains is docs/studies/planner.txt.
 """
 import pathlib
 import re
@@ -13,16 +16,17 @@ import subprocess
 import sys
 
 ROOT = pathlib.Path(__file__).resolve().parent.parent
+PLANNER = (ROOT / "docs" / "PLANNER.md").read_text()
+ENTRY = (ROOT / "docs" / "studies" / "entry.txt").read_text().splitlines()
 WORDS = "--words" in sys.argv[1:]
 
 
 def blocks(page):
-    """The code blocks of a page: (number of the first line, lines)."""
+    """The code blocks of a page: their lines, each with its number."""
     block, fenced = [], False
     for number, line in enumerate(page.read_text().splitlines() + [""], 1):
         fence = line.startswith("```")
-        inside = (fenced and not fence) or (not fenced and line.startswith("    "))
-        if inside:
+        if (fenced and not fence) or (not fenced and line.startswith("    ")):
             block.append((number, line if fenced else line[4:]))
         elif block:
             yield block
@@ -42,19 +46,49 @@ def shown(block):
             yield number, line[2:], after
 
 
-def main():
-    commands, faults = 0, 0
+def commands():
     for page in [ROOT / "README.md", *sorted((ROOT / "docs").glob("*.md"))]:
         for number, command, after in (found for block in blocks(page) for found in shown(block)):
-            commands += 1
             run = subprocess.run(["bash", "-c", command], cwd=ROOT, capture_output=True, text=True, timeout=10, stdin=subprocess.DEVNULL)
             told = [line for line in after if re.match(r"(\S+: )?railnoise: ", line)]
-            expected = [line for line in after if line not in told]
-            if run.stdout.splitlines() != expected or (WORDS and run.stderr.splitlines() != told):
-                faults += 1
-                print(f"{page.relative_to(ROOT)}:{number}: {command}\n{run.stdout}{run.stderr}", end="", file=sys.stderr)
-    print(f"pages: {commands} commands, {faults} write something else than their page")
-    sys.exit(1 if faults or not commands else 0)
+            right = run.stdout.splitlines() == [line for line in after if line not in told]
+            right = right and (not WORDS or run.stderr.splitlines() == told)
+            yield right, f"{page.relative_to(ROOT)}:{number}: {command}\n{run.stdout}{run.stderr}"
 
 
-main()
+def answer(text):
+    return subprocess.run([ROOT / "target" / "bin" / "railnoise"], input=text, capture_output=True, text=True, check=True).stdout
+
+
+def rows():
+    listed = re.findall(r"^\| (\d+) \| (.+?) \| \w+ \| (\d+\.\d) \|$", PLANNER, re.M)
+    header = re.findall(r"^ \* +(\d+)  (\S.*?) +(\d+\.\d)$", (ROOT / "include" / "railnoise.h").read_text(), re.M)
+    yield listed == header and len(listed) == 34, "vehicle rows: docs/PLANNER.md and the header differ, or are not 34"
+    for row, vehicle, figure in listed:
+        # 100 km/h are 71.2 dB, a single train by day takes 48.1 off; nothing else counts
+        level = (round(float(figure) * 10) + 712 - 481) / 10
+        written = answer(f"1 1\n2500 0 600 0 180 180 0 0 0 0 0 0 0 0\n{row} 100 1 1 0\n")
+        yield f"\nday {level:.1f} 0 no\n" in written, f"row {row}, {vehicle}: not {figure}: {written}"
+
+
+def refused_lines():
+    cases = re.findall(r"^\| (\d) \| `(.*)` \| (refused \d+ line \d+) \|", PLANNER, re.M)
+    yield len({refusal.split()[1] for _, _, refusal in cases}) == 13, "docs/PLANNER.md does not show every refusal of a text"
+    for line, typed, refusal in cases:
+        lines = [*ENTRY]
+        lines[int(line) - 1] = typed.replace(r"\t", "\t").replace(r"\r", "\r")
+        written = answer("".join(f"{text}\n" for text in lines))
+        yield written == refusal + "\n", f"docs/PLANNER.md: `{typed}`: {written}"
+
+
+def study():
+    text = (ROOT / "docs" / "studies" / "planner.txt").read_text()
+    yield "".join(f"    {line}\n" for line in text.splitlines()) in PLANNER, "docs/PLANNER.md does not show docs/studies/planner.txt"
+
+
+results = [*commands(), *rows(), *refused_lines(), *study()]
+for right, about in results:
+    if not right:
+        print(about, file=sys.stderr)
+print(f"pages: {len(results)} shown, {sum(not right for right, _ in results)} not so")
+sys.exit(0 if all(right for right, _ in results) else 1)
