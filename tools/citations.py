@@ -25,7 +25,8 @@ def parts(name):
 
 
 def used(name, text, found):
-    return all(part in found or (not part[0].isalnum() and part in text and len(part) == 1) for part in parts(name))
+    """As it stands, or by its parts; a part of one sign, as a comma, may stand within a word."""
+    return name in found or all(part in found or (len(part) == 1 and not part.isalnum() and part in text) for part in parts(name))
 
 
 class Source:
