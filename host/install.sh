@@ -22,6 +22,7 @@ same() {
 }
 
 version=$(sed -n 's/^#define RAILNOISE_VERSION "\(.*\)"$/\1/p' "$root/include/railnoise.h")
+same 'the version has its part of CHANGELOG.md' "## $version" "$(grep -Fx "## $version" "$root/CHANGELOG.md")"
 answer='period level close met
 day 62.9 0 no
 night 56.3 0 no'
