@@ -81,9 +81,11 @@ prove() {
     say "proving and building, some minutes the first time; the whole log is $log"
     set -m
     (
-        cd "$here" && rt check railnoise 2>&1 </dev/null 9>&- | tee "$log" | while IFS= read -r line; do
-            case $line in 'rt: '*) printf '%s\n' "$line" >&2 ;; esac
-        done
+        cd "$here" && rt check railnoise 2>&1 </dev/null 9>&- | tee "$log" | {
+            while IFS= read -r line; do
+                case $line in 'rt: '*) printf '%s\n' "$line" >&2 ;; esac
+            done || :
+        }
     ) &
     build=$!
     set +m
@@ -130,9 +132,10 @@ run() {
             ended=("${PIPESTATUS[@]}")
             [ "${ended[1]}" -eq 0 ] || exit $BROKEN
             [ "${ended[0]}" -eq 0 ] || exit $UNREAD
-        } | while IFS= read -r line; do
-            printf '%s%s\n' "$1" "$line" >&2
-        done
+        } | {
+            # words that cannot be written change no answer
+            while IFS= read -r line; do printf '%s%s\n' "$1" "$line" >&2; done || :
+        }
     } 4>&1
 }
 
@@ -177,8 +180,10 @@ named() {
     fi
 }
 
-# A pipe or a file would be given the number of a closed input or output.
-[ -e /dev/fd/2 ] || exec 2>/dev/null
+# A pipe or a file would be given the number of a closed input or output; bash opens this script in place of a closed standard error.
+if [ ! -e /dev/fd/2 ] || [ /dev/fd/2 -ef "$0" ]; then
+    exec 2>/dev/null
+fi
 [ -e /dev/fd/1 ] || die 'cannot write to standard output: it is closed'
 input_closed=no
 if [ ! -e /dev/fd/0 ]; then

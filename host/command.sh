@@ -187,6 +187,8 @@ checkout stub
 stub=$build/stub/target/bin/railnoise
 printf '#!/bin/sh\ncat >/dev/null\necho "railnoise: words of the program" >&2\necho "refused 9 line 3"\n' >"$stub"
 try "the program's words pass through" 1 'refused 9 line 3\n' 'railnoise: words of the program' stub/railnoise.sh other
+try 'the words with a closed standard error' 1 'refused 9 line 3\n' '' sh -c '"$1" "$2" 2>&-' sh stub/railnoise.sh other
+[ ! -c /dev/full ] || try 'the words on a full device' 1 'refused 9 line 3\n' '' sh -c '"$1" "$2" 2>/dev/full' sh stub/railnoise.sh other
 try 'with several files each after its name' 1 '==> other <==\nrefused 9 line 3\n==> standard input <==\nrefused 9 line 3\n' \
     'other: railnoise: words of the program
 standard input: railnoise: words of the program' stub/railnoise.sh other - <short
@@ -205,7 +207,9 @@ touch locked/crates.txt
 mkdir kit
 cat >kit/rt <<'KIT'
 #!/bin/sh
-# Stands for rt: says what rt says, counts its runs, and puts the program in place. SLOW: seconds that a crate takes.
+# Stands for rt: takes all that it can read, says what rt says, counts its runs, and puts the program in place. SLOW: seconds that a
+# crate takes.
+cat >/dev/null
 echo run >>builds
 echo 'fn small: proved'
 echo 'rt: decibel proved (0 s)'
@@ -235,6 +239,9 @@ try 'the first build shows each crate' 0 "$other_answer" '*proving and building*
 rt: decibel proved (0 s)
 rt: ok, 1 crates proved' with_kit first/railnoise.sh other
 try 'the second run builds nothing' 0 "$other_answer" '' with_kit first/railnoise.sh other
+fresh mute
+[ ! -c /dev/full ] || try 'a build that cannot show its crates' 0 "$other_answer" '' \
+    with_kit sh -c '"$1" "$2" 2>/dev/full' sh mute/railnoise.sh other
 fresh piped
 try 'a build leaves standard input alone' 0 "$other_answer" '*rt: ok*' with_kit piped/railnoise.sh <other
 fresh broken
