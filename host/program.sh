@@ -1,5 +1,6 @@
 #!/bin/sh
 # Tries the built program on texts: what it writes is compared byte for byte with what document 01 says, and it must end with status 0.
+# Then the command around it, railnoise.sh, is tried by host/command.sh.
 #   host/program.sh [PROGRAM]
 # PROGRAM: by default target/bin/railnoise, as rt check railnoise builds it.
 #
@@ -16,6 +17,7 @@ mkdir -p "$build"
 text=$build/program.text
 expected=$build/program.expected
 written=$build/program.written
+errors=$build/program.errors
 cases=0
 wrong=0
 
@@ -31,12 +33,13 @@ judge() {
     echo "WRONG: $1: status $2"
     sed 's/^/    expected: /' "$expected"
     sed 's/^/    written:  /' "$written"
+    sed 's/^/    errors:   /' "$errors"
 }
 
 # run NAME EXPECTED: the program on the text that stands in $text
 run() {
     status=0
-    "$program" <"$text" >"$written" || status=$?
+    "$program" <"$text" >"$written" 2>"$errors" || status=$?
     judge "$1" "$status" "$2"
 }
 
@@ -119,12 +122,14 @@ run 'sample and spaces, 16385 bytes' 'refused 12 line 0\n'
 
 # The first piece ends inside a number. The pipe's status is the program's.
 status=0
-{ head -c 11 "$sample"; sleep 1; tail -c +12 "$sample"; } | "$program" >"$written" || status=$?
+{ head -c 11 "$sample"; sleep 1; tail -c +12 "$sample"; } | "$program" >"$written" 2>"$errors" || status=$?
 judge 'sample in two pieces' "$status" "$(lines '62.9 0 no' '56.3 0 no')"
 
 status=0
-"$program" <&- >"$written" || status=$?
+"$program" <&- >"$written" 2>"$errors" || status=$?
 judge 'standard input closed: as an empty text' "$status" 'refused 13 line 1\n'
 
 echo "$cases cases, $wrong wrong"
 [ "$wrong" -eq 0 ]
+
+"$here/command.sh" "$program"

@@ -4,6 +4,9 @@
  * period, and answers with two period results; the entries' levels are left in cells that the caller
  * lends.
  *
+ * The header is C99 and C++11; the archive is built for x86-64 Linux and needs only memcpy and memset of the
+ * C library.
+ *
  * The function keeps no state: any number of threads may call it at the same time, each with its own
  * cells; the text may be shared. It allocates nothing, so there is nothing to free. Stack use: about
  * 40 kB.
@@ -35,17 +38,68 @@
  *   14  angle of opposite reflecting facades         degrees      0 to the angle of view
  *
  * A train entry, in this order:
- *    1  vehicle row of Table A1.1                                 1 to 34
+ *    1  vehicle row of Table A1.1, see below                      1 to 34
  *    2  speed                                        km/h         20 to 300
  *    3  vehicles of the train                                     1 to 60
  *    4  trains by day                                             0 to 2000
  *    5  trains by night                                           0 to 2000
+ *
+ * VEHICLE ROWS, in the order of Table A1.1, each with its figure in dB. The number to enter is the row, not
+ * the category number of the table: a Freightliner is row 20 and stands in category 6; row 6 is a louder
+ * vehicle.
+ *      category 1: tread braked passenger coaches, 4 axles
+ *    1  British Rail Mark I                             14.8
+ *    2  British Rail Mark II                            14.8
+ *    3  Gatwick Express                                 16.7
+ *    4  Class 421 electric multiple unit                10.8
+ *    5  Class 422 electric multiple unit                10.8
+ *    6  London Underground A stock                      12.9
+ *    7  London Underground tube stock                    7.1
+ *      category 2: disc braked passenger coaches, 4 axles
+ *    8  British Rail Mark III                            6.0
+ *    9  British Rail Mark IV                             6.0
+ *   10  Class 319 electric multiple unit                11.3
+ *   11  Class 465 electric multiple unit                 8.4
+ *   12  Class 466 electric multiple unit                 8.4
+ *   13  Class 165 diesel multiple unit                   7.0
+ *   14  Class 166 diesel multiple unit                   7.0
+ *      category 2a: disc braked light rail coach, 6 axles
+ *   15  Manchester Metrolink, articulated               15.8
+ *      category 2b: disc braked light rail coach, 8 axles
+ *   16  South Yorkshire Supertram, double articulated   14.9
+ *      category 3: tread braked freight vehicles, 2 axles
+ *   17  2 axle tank wagon                               12.0
+ *      category 4: tread braked freight vehicles, 4 axles
+ *   18  4 axle tank wagon                               15.0
+ *      category 5: disc braked freight vehicles, 2 axles
+ *   19  Merry Go Round coal hopper HA                    8.0
+ *      category 6: disc braked freight vehicles, 4 axles
+ *   20  Freightliner                                     7.5
+ *      category 7: diesel locomotives, not on full power
+ *   21  Class 20                                        14.8
+ *   22  Class 31                                        16.6
+ *   23  Class 33                                        14.8
+ *   24  Class 37                                        16.6
+ *   25  Class 43                                        18.0
+ *   26  Class 47                                        16.6
+ *   27  Class 56                                        16.6
+ *   28  Class 59                                        16.6
+ *   29  Class 60                                        16.6
+ *      category 7: electric locomotives
+ *   30  Class 73                                        14.8
+ *   31  Class 86                                        14.8
+ *   32  Class 87                                        14.8
+ *   33  Class 90                                        14.8
+ *   34  Class 91                                        14.8
  *
  * One segment with one train entry, the memorandum's Example 2:
  *     "1 1\n10000 330 235 10 180 180 0 0 0 0 0 0 1 0\n1 150 10 179 13\n"
  */
 #ifndef RAILNOISE_H
 #define RAILNOISE_H
+
+/* The version, in this one place: railnoise.sh --version and the pkg-config file take it from here. */
+#define RAILNOISE_VERSION "0.1.0"
 
 #include <stdbool.h>
 #include <stddef.h>
@@ -131,30 +185,50 @@ enum {
  * and cells must not overlap. */
 railnoise_answer railnoise_levels(const uint8_t *text, size_t text_length, int32_t *cells, size_t cell_count);
 
-/* A refusal in plain words, for a message beside its number and line; "unknown refusal" for a number
- * that is none of the above. */
+/* A refusal in plain words, with the range or rule that was broken, for a message beside its number and
+ * line: at most 300 bytes of ASCII. The program writes the same words to standard error. "unknown
+ * refusal" for a number that is none of the above. */
 static inline const char *railnoise_refusal_words(uint32_t refusal)
 {
     switch (refusal) {
     case RAILNOISE_ANSWERED: return "answered";
-    case RAILNOISE_DISTANCE: return "distance to the source line out of range";
-    case RAILNOISE_HEIGHT: return "window height or mean height of propagation out of range";
-    case RAILNOISE_SOFT_GROUND: return "share of soft ground out of range";
-    case RAILNOISE_ANGLE: return "angle of view, or twice the angle of Figure 9, out of range";
-    case RAILNOISE_SCREEN: return "screen figures out of range, or figures that do not go with the screen";
-    case RAILNOISE_PATH_DIFFERENCE: return "path over the screen more than 2.5 m longer, in shadow";
-    case RAILNOISE_READING: return "track or ballast reading, facade or opposite angle out of range";
-    case RAILNOISE_ROW: return "vehicle row out of range";
-    case RAILNOISE_SPEED: return "speed out of range";
-    case RAILNOISE_VEHICLES: return "number of vehicles out of range";
-    case RAILNOISE_TRAINS: return "number of day or night trains out of range";
-    case RAILNOISE_FORM: return "text out of form";
-    case RAILNOISE_CONTENTS: return "contents line out of range, or a line missing or extra";
-    case RAILNOISE_NO_SEGMENT: return "train entry before any segment";
-    case RAILNOISE_EXTRA_SEGMENT: return "more than 24 segments";
-    case RAILNOISE_EXTRA_ENTRY: return "more than 96 train entries";
-    case RAILNOISE_NO_ENTRY: return "levels asked without a train entry";
-    case RAILNOISE_CELLS: return "too few working cells";
+    case RAILNOISE_DISTANCE: return "distance to the source line must be 1000 to 30000 cm";
+    case RAILNOISE_HEIGHT:
+        return "window height must be -5000 to 5000 cm above the railhead, and mean height of "
+               "propagation 0 to 5000 cm";
+    case RAILNOISE_SOFT_GROUND: return "share of soft ground must be 0 to 10 tenths";
+    case RAILNOISE_ANGLE:
+        return "angle of view must be 5 to 180 degrees, and twice the angle alpha of Figure 9 from "
+               "the angle of view to 180 degrees";
+    case RAILNOISE_SCREEN:
+        return "screen must be 0, 1 or 2; source to screen 100 cm to 100 cm less than the distance; "
+               "screen top -2000 to 5000 cm; Chart 6(c) reading 0 to 100 tenths, and 0 unless the "
+               "screen is reflective (2); all three must be 0 without a screen, and ballast 0 with "
+               "one";
+    case RAILNOISE_PATH_DIFFERENCE:
+        return "window is in the screen's shadow and the path over the screen is more than 2.5 m "
+               "longer than the straight one, beyond the chart";
+    case RAILNOISE_READING:
+        return "Table 1 reading must be 0 to 150 tenths, ballast reading -30 to 0 tenths, facade 0 "
+               "or 1, and angle of opposite facades 0 degrees to the angle of view";
+    case RAILNOISE_ROW:
+        return "vehicle row must be 1 to 34: the row of Table A1.1, not its category number";
+    case RAILNOISE_SPEED: return "speed must be 20 to 300 km/h";
+    case RAILNOISE_VEHICLES: return "vehicles of a train must be 1 to 60";
+    case RAILNOISE_TRAINS: return "day trains and night trains must each be 0 to 2000";
+    case RAILNOISE_FORM:
+        return "out of form: a number has 1 to 5 digits, no decimal point and no spare zero, as 0, "
+               "75 or -30; one space between two numbers, no tab, second space or carriage return; "
+               "a line feed ends every line, the last too; a segment has 14 numbers, a train 5, line "
+               "1 one more than segments; at most 16384 bytes";
+    case RAILNOISE_CONTENTS:
+        return "line 1 must give 1 to 24 segments, then each segment's number of train lines, 0 to "
+               "96 and 1 to 96 in all; every line that it promises must be there, and no other";
+    case RAILNOISE_NO_SEGMENT: return "a train entry needs a segment before it";
+    case RAILNOISE_EXTRA_SEGMENT: return "a study has at most 24 segments";
+    case RAILNOISE_EXTRA_ENTRY: return "a study has at most 96 train entries";
+    case RAILNOISE_NO_ENTRY: return "levels need at least 1 train entry";
+    case RAILNOISE_CELLS: return "working cells must be at least 2 for each train entry";
     default: return "unknown refusal";
     }
 }

@@ -5,6 +5,9 @@
 - a function of the product has fewer than 40 lines, its contract not counted
 - an antt file has at most 300 lines
 - no six lines stand twice; blank lines, comments and imports are not counted
+- no file is of a kind that its folder does not hold; every module of specs/ and proofs/ is listed in its Lib.antt, and every folder of
+  proofs/ that has a Proof.antt is named after a function
+- no import is unused, and no definition is there that nothing cites (tools/citations.py)
 
 Run it at the root: python3 tools/audit.py
 """
@@ -12,12 +15,28 @@ import pathlib
 import re
 import sys
 
+import citations
+
 # Functions that may be longer, with the reason.
 LONG = {
     "text segment_of": "document 01 asks for a `let .. else` for each of the 14 fields",
 }
 # Written by tools/tables.py: a table's function has an arm for each entry.
 TABLES = {"crates/decibel_tables/src/lib.rt", "crates/energy_tables/src/lib.rt"}
+
+# What a folder holds, by suffix or name. Folders that a build or git fills are left out.
+HELD = {
+    ".": {"README.md", "CHANGELOG.md", "crates.txt", "railnoise.sh", ".gitignore"},
+    ".ci": {"run"},
+    "crates": {".rt", ".antt", ".edit", "stdin", "stdout"},
+    "docs": {".md", ".svg", ".txt"},
+    "host": {".sh", ".py", ".c", ".h", ".rs", ".toml", ".md", ".dict", ".gitignore", "Cargo.lock"},
+    "include": {".h"},
+    "tools": {".py", ".sh", ".json"},
+}
+FILLED = {"target", "build", "__pycache__", ".git"}
+# Definitions that nothing cites yet and that stay all the same, with the reason.
+UNCITED = {}
 
 FUNCTION = re.compile(
     r"""^(?P<indent>[ \t]*)(?P<public>pub[ ])?(?:pub\(crate\)[ ])?(?:extern[ ]"C"[ ])?fn[ ](?P<name>\w+)
@@ -91,6 +110,39 @@ def repeated_runs(paths):
             yield [f"{path}:{kept[path][start][0]}" for path, start in places]
 
 
+def stray_files():
+    for path in sorted(path for path in pathlib.Path(".").glob("**/*") if path.is_file() and not FILLED & set(path.parts)):
+        held = HELD.get(path.parts[0] if len(path.parts) > 1 else ".", set())
+        if path.name not in held and (len(path.parts) == 1 or path.suffix not in held):
+            yield f"{path}: a stray file"
+
+
+def stray_proofs():
+    """Modules that no Lib.antt lists, and proofs of functions that are not there."""
+    for crate in sorted(pathlib.Path("crates").iterdir()):
+        code = "\n".join(path.read_text() for path in crate.glob("src/**/*.rt"))
+        functions = set(re.findall(r"\bfn (\w+)", code))
+        for folder in (crate / "specs", crate / "proofs"):
+            library = folder / "Lib.antt"
+            listed = set(re.findall(r"^(?:pub )?mod (\S+)", library.read_text() if library.exists() else "", re.M))
+            for path in sorted(folder.glob("*.antt")):
+                if path != library and path.stem not in listed:
+                    yield f"{path}: no module of {library}"
+        for path in sorted(crate.glob("proofs/**/Proof.antt")):
+            if path.parent.name.lstrip("+") not in functions:
+                yield f"{path}: there is no function {path.parent.name}"
+
+
+def idle_names():
+    """Unused imports and definitions that nothing cites."""
+    sources = citations.sources()
+    pages = "\n".join(path.read_text() for path in files(["README.md", "docs/*.md"]))
+    yield from citations.unused_imports(sources)
+    for path, name in citations.uncited_definitions(sources, pages):
+        if name not in UNCITED:
+            yield f"{path}: nothing cites {name}"
+
+
 def main():
     trace = pathlib.Path("docs/TRACE.md").read_text()
     faults = [fault for path in files(["crates/*/src/**/*.rt"]) for fault in function_faults(path, trace)]
@@ -100,6 +152,7 @@ def main():
             faults.append(f"{path}: {length} lines")
     for places in repeated_runs(files(SOURCES)):
         faults.append(f"six equal lines: {', '.join(places[:4])}{' and more' if len(places) > 4 else ''}")
+    faults += [*stray_files(), *stray_proofs(), *idle_names()]
     for fault in faults:
         print(fault, file=sys.stderr)
     print(f"audit: {len(faults)} faults")

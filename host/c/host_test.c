@@ -327,11 +327,15 @@ typedef struct {
     int field;
     int32_t low, high;
     uint32_t refusal;
+    bool told; /* the refusal's words name the two ends */
 } range_case;
 
 static void try_range(const int32_t *segment, const int32_t *train, bool of_train, const range_case *c)
 {
     static const char *const places[4] = { "low", "high", "below", "above" };
+    char range[40];
+    snprintf(range, sizeof range, "%d to %d", c->low, c->high);
+    CHECK(!c->told || strstr(railnoise_refusal_words(c->refusal), range) != NULL, range);
     const int32_t values[4] = { c->low, c->high, c->low - 1, c->high + 1 };
     for (int i = 0; i < 4; i++) {
         int32_t s[14], t[5];
@@ -350,16 +354,17 @@ static void try_range(const int32_t *segment, const int32_t *train, bool of_trai
 static void test_ranges(void)
 {
     static const range_case open_fields[] = {
-        { 0, 1000, 30000, 1 }, { 1, -5000, 5000, 2 }, { 2, 0, 5000, 2 }, { 3, 0, 10, 3 },   { 7, 0, 0, 5 },
-        { 8, 0, 0, 5 },        { 9, 0, 0, 5 },        { 10, 0, 150, 7 }, { 11, -30, 0, 7 }, { 12, 0, 1, 7 },
-        { 13, 0, 180, 7 },
+        { 0, 1000, 30000, 1, true }, { 1, -5000, 5000, 2, true }, { 2, 0, 5000, 2, true }, { 3, 0, 10, 3, true },
+        { 7, 0, 0, 5, false },       { 8, 0, 0, 5, false },       { 9, 0, 0, 5, false },   { 10, 0, 150, 7, true },
+        { 11, -30, 0, 7, true },     { 12, 0, 1, 7, false },      { 13, 0, 180, 7, false },
     };
     static const range_case screen_fields[] = {
-        { 2, 0, 5000, 2 },  { 3, 0, 10, 3 }, { 7, 100, 2400, 5 }, { 9, 0, 100, 5 },
-        { 10, 0, 150, 7 },  { 11, 0, 0, 5 }, { 12, 0, 1, 7 },
+        { 2, 0, 5000, 2, true },  { 3, 0, 10, 3, true }, { 7, 100, 2400, 5, false }, { 9, 0, 100, 5, true },
+        { 10, 0, 150, 7, true },  { 11, 0, 0, 5, false }, { 12, 0, 1, 7, false },
     };
     static const range_case train_fields[] = {
-        { 0, 1, 34, 8 }, { 1, 20, 300, 9 }, { 2, 1, 60, 10 }, { 3, 0, 2000, 11 }, { 4, 0, 2000, 11 },
+        { 0, 1, 34, 8, true },     { 1, 20, 300, 9, true },   { 2, 1, 60, 10, true },
+        { 3, 0, 2000, 11, true }, { 4, 0, 2000, 11, true },
     };
     for (size_t i = 0; i < sizeof open_fields / sizeof *open_fields; i++)
         try_range(plain_segment, plain_train, false, &open_fields[i]);
@@ -598,12 +603,26 @@ static void test_threads(void)
     CHECK(failures[0] == 0 && failures[1] == 0, "two threads at once");
 }
 
-/* Every refusal of document 01 has words of its own, those that no text leads to as well. */
+/* Every refusal of document 01 has words of its own, those that no text leads to as well. Limits that
+ * no range above names stand in them too. */
 static void test_words(void)
 {
+    static const struct { uint32_t refusal; const char *rule; } rules[] = {
+        { 4, "5 to 180 degrees" }, { 5, "0, 1 or 2" },      { 5, "-2000 to 5000 cm" }, { 5, "100 cm less than the distance" },
+        { 6, "2.5 m" },            { 7, "0 or 1" },         { 12, "1 to 5 digits" },   { 12, "decimal point" },
+        { 12, "tab" },             { 12, "second space" },  { 12, "carriage return" }, { 12, "the last too" },
+        { 12, "14 numbers" },      { 12, "16384 bytes" },   { 13, "1 to 24 segments" }, { 13, "1 to 96 in all" },
+        { 21, "24" },              { 22, "96" },            { 24, "2 for each" },
+    };
+    for (size_t i = 0; i < sizeof rules / sizeof *rules; i++)
+        CHECK(strstr(railnoise_refusal_words(rules[i].refusal), rules[i].rule) != NULL, rules[i].rule);
     for (uint32_t i = 0; i <= 26; i++) {
         bool known = i <= 13 || (20 <= i && i <= 24);
         CHECK((strcmp(railnoise_refusal_words(i), "unknown refusal") != 0) == known, "words of a refusal");
+        size_t length = strlen(railnoise_refusal_words(i));
+        CHECK(0 < length && length <= 300, "length of a refusal's words");
+        for (const char *at = railnoise_refusal_words(i); *at != '\0'; at++)
+            CHECK(' ' <= *at && *at <= '~', "a refusal's words are plain ASCII");
         for (uint32_t k = 0; k < i && known; k++)
             CHECK(strcmp(railnoise_refusal_words(i), railnoise_refusal_words(k)) != 0, "words of two refusals");
     }

@@ -1,0 +1,58 @@
+#!/bin/sh
+# Tries tools/install.sh: the installed command, and README's C example built with the flags of the installed pkg-config file.
+#   host/install.sh
+# The prefix is moved before it is tried, as when it is copied to another machine. Where pkg-config is missing, its flags are written out here.
+set -eu
+here=$(cd "$(dirname "$0")" && pwd)
+root=$here/..
+build=$here/build/install
+rm -rf "$build"
+mkdir -p "$build"
+cd "$build"
+"$root/tools/install.sh" first
+mv first prefix
+
+# same NAME EXPECTED WRITTEN
+same() {
+    if [ "$2" != "$3" ]; then
+        printf 'WRONG: %s\n    expected: %s\n    written:  %s\n' "$1" "$2" "$3"
+        exit 1
+    fi
+    echo "right: $1"
+}
+
+version=$(sed -n 's/^#define RAILNOISE_VERSION "\(.*\)"$/\1/p' "$root/include/railnoise.h")
+same 'the version has its part of CHANGELOG.md' "## $version" "$(grep -Fx "## $version" "$root/CHANGELOG.md")"
+answer='period level close met
+day 62.9 0 no
+night 56.3 0 no'
+same 'the installed command on a study' "$answer" "$(prefix/bin/railnoise "$root/crates/railnoise/stdin")"
+same 'its sample' "$answer" "$(prefix/bin/railnoise --sample)"
+same 'its version' "railnoise $version" "$(prefix/bin/railnoise --version)"
+status=0
+written=$(printf '1 1\n' | prefix/bin/railnoise 2>/dev/null) || status=$?
+same 'its status on a refusal' 'refused 13 line 2, status 1' "$written, status $status"
+rm prefix/libexec/railnoise
+status=0
+written=$(prefix/bin/railnoise --sample 2>&1) || status=$?
+case $written in *'program is missing'*) written=said ;; esac
+same 'the program taken away' 'said, status 2' "$written, status $status"
+
+if command -v pkg-config >/dev/null; then
+    PKG_CONFIG_PATH=$build/prefix/lib/pkgconfig
+    export PKG_CONFIG_PATH
+    same "pkg-config's version" "$version" "$(pkg-config --modversion railnoise)"
+    flags=$(pkg-config --cflags --libs railnoise)
+else
+    flags="-Iprefix/include -Lprefix/lib -lrailnoise_c"
+fi
+# The example and what it prints are those that README shows.
+awk '/^```c$/ { on = 1; next } /^```$/ { on = 0 } on' "$root/README.md" >example.c
+awk '/^```text$/ { on = 1; next } /^```$/ { on = 0 } on' "$root/README.md" >expected
+if [ ! -s example.c ] || [ ! -s expected ]; then
+    echo 'README shows no example' >&2
+    exit 1
+fi
+# shellcheck disable=SC2086 # several flags
+gcc -std=c99 -Wall -Wextra -Wpedantic -Werror example.c $flags -o example
+same "README's example" "$(cat expected)" "$(./example)"

@@ -1,0 +1,113 @@
+#!/usr/bin/env python3
+"""Tries what the pages and the header show, by the built program: commands, vehicle rows, refused lines.
+
+    host/pages.py [--words]
+
+- A command is a line `$ ./railnoise.sh ..` in an indented or fenced block of README.md or docs/*.md; the lines after it, up to the next
+  command or the end of the block, are what it writes. Lines that begin with `railnoise: ` belong to standard error; they are compared
+  with --words. Commands run at the root of the checkout, by bash; one that takes longer than 10 s is at fault.
+- The vehicle rows of docs/PLANNER.md are those of the header, and the program gives each its figure.
+- The refused lines of docs/PLANNER.md, put into docs/studies/entry.txt, give the refusal beside them.
+- The study that docs/PLANNER.md explains is docs/studies/planner.txt.
+- The 14 and 5 figures have the same ranges in README.md, docs/PLANNER.md, docs/RULES.md and the header.
+"""
+import pathlib
+import re
+import subprocess
+import sys
+
+ROOT = pathlib.Path(__file__).resolve().parent.parent
+PLANNER = (ROOT / "docs" / "PLANNER.md").read_text()
+ENTRY = (ROOT / "docs" / "studies" / "entry.txt").read_text().splitlines()
+WORDS = "--words" in sys.argv[1:]
+
+
+def blocks(page):
+    """The code blocks of a page: their lines, each with its number."""
+    block, fenced = [], False
+    for number, line in enumerate(page.read_text().splitlines() + [""], 1):
+        fence = line.startswith("```")
+        if (fenced and not fence) or (not fenced and line.startswith("    ")):
+            block.append((number, line if fenced else line[4:]))
+        elif block:
+            yield block
+            block = []
+        fenced ^= fence
+
+
+def shown(block):
+    """Each command of a block with its line's number and what the page shows of it."""
+    for place, (number, line) in enumerate(block):
+        if line.startswith("$ ./railnoise.sh"):
+            after = []
+            for _, written in block[place + 1:]:
+                if written.startswith("$ "):
+                    break
+                after.append(written)
+            yield number, line[2:], after
+
+
+def commands():
+    for page in [ROOT / "README.md", *sorted((ROOT / "docs").glob("*.md"))]:
+        for number, command, after in (found for block in blocks(page) for found in shown(block)):
+            run = subprocess.run(["bash", "-c", command], cwd=ROOT, capture_output=True, text=True, timeout=10, stdin=subprocess.DEVNULL)
+            told = [line for line in after if re.match(r"(\S+: )?railnoise: ", line)]
+            right = run.stdout.splitlines() == [line for line in after if line not in told]
+            right = right and (not WORDS or run.stderr.splitlines() == told)
+            yield right, f"{page.relative_to(ROOT)}:{number}: {command}\n{run.stdout}{run.stderr}"
+
+
+def answer(text):
+    return subprocess.run([ROOT / "target" / "bin" / "railnoise"], input=text, capture_output=True, text=True, check=True).stdout
+
+
+def rows():
+    listed = re.findall(r"^\| (\d+) \| (.+?) \| \w+ \| (\d+\.\d) \|$", PLANNER, re.M)
+    header = re.findall(r"^ \* +(\d+)  (\S.*?) +(\d+\.\d)$", (ROOT / "include" / "railnoise.h").read_text(), re.M)
+    yield listed == header and len(listed) == 34, "vehicle rows: docs/PLANNER.md and the header differ, or are not 34"
+    for row, vehicle, figure in listed:
+        # 100 km/h are 71.2 dB, a single train by day takes 48.1 off; nothing else counts
+        level = (round(float(figure) * 10) + 712 - 481) / 10
+        written = answer(f"1 1\n2500 0 600 0 180 180 0 0 0 0 0 0 0 0\n{row} 100 1 1 0\n")
+        yield f"\nday {level:.1f} 0 no\n" in written, f"row {row}, {vehicle}: not {figure}: {written}"
+
+
+def refused_lines():
+    cases = re.findall(r"^\| (\d) \| `(.*)` \| (refused \d+ line \d+) \|", PLANNER, re.M)
+    yield len({refusal.split()[1] for _, _, refusal in cases}) == 13, "docs/PLANNER.md does not show every refusal of a text"
+    for line, typed, refusal in cases:
+        lines = [*ENTRY]
+        lines[int(line) - 1] = typed.replace(r"\t", "\t").replace(r"\r", "\r")
+        written = answer("".join(f"{text}\n" for text in lines))
+        yield written == refusal + "\n", f"docs/PLANNER.md: `{typed}`: {written}"
+
+
+def study():
+    text = (ROOT / "docs" / "studies" / "planner.txt").read_text()
+    yield "".join(f"    {line}\n" for line in text.splitlines()) in PLANNER, "docs/PLANNER.md does not show docs/studies/planner.txt"
+
+
+RANGE = r"((?:-?\d+|θ|the angle of view) to (?:d [−-] 100|θ|the angle of view|\d+))"
+
+
+def ranges():
+    """The ranges of the segment's and then the train's figures, those that are one: the screen and the facade have values."""
+    def told(pattern, text):
+        return [found.replace("the angle of view", "θ").replace("−", "-") for found in re.findall(pattern, text, re.M)]
+
+    readme = told(r"^\| \d+ \|[^|]*\|[^|]*\| " + RANGE, (ROOT / "README.md").read_text())
+    yield len(readme) == 17, f"README.md gives {len(readme)} ranges, not 17"
+    for name, pattern, text in [
+        ("docs/RULES.md", r"^\| 2\.\d+ \|[^|]*\|[^|]*\| " + RANGE, (ROOT / "docs" / "RULES.md").read_text()),
+        ("docs/PLANNER.md", r"^\| (?!7 )\d+ \|[^|]*\|[^|]*\| " + RANGE, PLANNER),
+        ("include/railnoise.h", r"^ \* +\d+  \S.*?  " + RANGE, (ROOT / "include" / "railnoise.h").read_text()),
+    ]:
+        yield told(pattern, text) == readme, f"{name} gives other ranges than README.md: {told(pattern, text)}"
+
+
+results = [*commands(), *rows(), *refused_lines(), *study(), *ranges()]
+for right, about in results:
+    if not right:
+        print(about, file=sys.stderr)
+print(f"pages: {len(results)} shown, {sum(not right for right, _ in results)} not so")
+sys.exit(0 if all(right for right, _ in results) else 1)
