@@ -1,5 +1,7 @@
-/* The anchor for speed: what an engineer would write in an afternoon, with strtol and libm.
- * Doubles throughout and no care for ties, so it misreads some studies; the differential program
+/* The two anchors for speed: what an engineer would write in an afternoon, with libm. Compiled as it
+ * is, it is plain_levels and reads numbers with strtol; with DIGIT_LOOP defined it is digits_levels
+ * and reads them with a loop of its own. They differ in read_number alone.
+ * Doubles throughout and no care for ties, so both misread some studies; the differential program
  * counts how many. */
 #include "plain.h"
 
@@ -7,6 +9,12 @@
 #include <math.h>
 #include <stdlib.h>
 #include <string.h>
+
+#ifdef DIGIT_LOOP
+#define LEVELS digits_levels
+#else
+#define LEVELS plain_levels
+#endif
 
 #define MOST_SEGMENTS 24
 #define MOST_ENTRIES 96
@@ -23,6 +31,7 @@ typedef struct {
 typedef struct {
     int segment;
     long row, speed, vehicles, trains[2];
+    int tenths; /* of all steps but the number of trains' */
 } entry;
 
 typedef struct {
@@ -54,6 +63,34 @@ static int close_tenth(double decibels, bool *close)
     return *close ? (int)ceil(tenths) : nearest_tenth(decibels);
 }
 
+/* Reads the number at the place; gives the place after it, or NULL when it is out of form. */
+#ifdef DIGIT_LOOP
+static const char *read_number(const char *at, long *number)
+{
+    const char *digits = at + (*at == '-'), *end = digits;
+    long value = 0;
+    /* A sixth digit is left standing, where a space or a line feed must be. */
+    for (unsigned digit; end < digits + 5 && (digit = (unsigned)*end - '0') <= 9; end++)
+        value = 10 * value + (long)digit;
+    if (end == digits || (*digits == '0' && (digits > at || end > digits + 1)))
+        return NULL;
+    *number = digits > at ? -value : value;
+    return end;
+}
+#else
+static const char *read_number(const char *at, long *number)
+{
+    const char *digits = at + (*at == '-');
+    if (!isdigit((unsigned char)digits[0]))
+        return NULL;
+    if (digits[0] == '0' && (digits > at || isdigit((unsigned char)digits[1])))
+        return NULL;
+    char *end;
+    *number = strtol(at, &end, 10);
+    return end - digits > 5 ? NULL : end;
+}
+#endif
+
 /* Reads one line's numbers; the cursor moves past its line feed. Gives their count, or -1 when out
  * of form; numbers past the most are read and counted, not kept. */
 static int read_line(const char **cursor, long *numbers, int most)
@@ -61,14 +98,9 @@ static int read_line(const char **cursor, long *numbers, int most)
     const char *at = *cursor;
     int count = 0;
     for (;;) {
-        const char *digits = at + (*at == '-');
-        if (!isdigit((unsigned char)digits[0]))
-            return -1;
-        if (digits[0] == '0' && (digits > at || isdigit((unsigned char)digits[1])))
-            return -1;
-        char *end;
-        long number = strtol(at, &end, 10);
-        if (end - digits > 5)
+        long number;
+        const char *end = read_number(at, &number);
+        if (end == NULL)
             return -1;
         if (count < most)
             numbers[count] = number;
@@ -161,6 +193,19 @@ static void work_out_segment(segment *s)
     s->tenths += (int)(n[CHART] + n[TRACK] + n[BALLAST]) + (n[FACADE] ? 25 : 0);
 }
 
+/* After the reading, so that a refused text costs its reading alone; once for both periods. */
+static void work_out(study *s)
+{
+    for (int i = 0; i < s->segment_count; i++)
+        work_out_segment(&s->segments[i]);
+    for (int i = 0; i < s->entry_count; i++) {
+        entry *e = &s->entries[i];
+        e->tenths = s->segments[e->segment].tenths + vehicle_table[e->row - 1];
+        e->tenths += nearest_tenth(31.2 + 20.0 * log10((double)e->speed));
+        e->tenths += nearest_tenth(10.0 * log10((double)e->vehicles));
+    }
+}
+
 /* The text with a zero byte after it; 0 when the study is read, else the refusal with its line. */
 static uint32_t read_study(const char *text, const char *end, study *s, uint32_t *line)
 {
@@ -191,7 +236,6 @@ static uint32_t read_study(const char *text, const char *end, study *s, uint32_t
         uint32_t refusal = segment_refusal(s->segments[i].n);
         if (refusal)
             return refusal;
-        work_out_segment(&s->segments[i]);
         for (long k = 0; k < contents[i + 1]; k++) {
             ++*line;
             if (text == end)
@@ -200,7 +244,7 @@ static uint32_t read_study(const char *text, const char *end, study *s, uint32_t
                 return 12;
             if ((refusal = entry_refusal(n)))
                 return refusal;
-            s->entries[s->entry_count++] = (entry){ i, n[0], n[1], n[2], { n[3], n[4] } };
+            s->entries[s->entry_count++] = (entry){ i, n[0], n[1], n[2], { n[3], n[4] }, 0 };
         }
     }
     ++*line;
@@ -218,10 +262,7 @@ static railnoise_period period_result(const study *s, int period, int32_t *cells
             cells[i] = RAILNOISE_SILENT_CELL;
             continue;
         }
-        int level = s->segments[e->segment].tenths + vehicle_table[e->row - 1];
-        level += nearest_tenth(31.2 + 20.0 * log10((double)e->speed));
-        level += nearest_tenth(10.0 * log10((double)e->vehicles));
-        level += nearest_tenth(10.0 * log10((double)e->trains[period])) - (period == 0 ? 481 : 433);
+        int level = e->tenths + nearest_tenth(10.0 * log10((double)e->trains[period])) - (period == 0 ? 481 : 433);
         cells[i] = level;
         sum += pow(10.0, level / 100.0);
         result.silent = false;
@@ -237,7 +278,7 @@ static railnoise_period period_result(const study *s, int period, int32_t *cells
     return result;
 }
 
-railnoise_answer plain_levels(const uint8_t *text, size_t text_length, int32_t *cells, size_t cell_count)
+railnoise_answer LEVELS(const uint8_t *text, size_t text_length, int32_t *cells, size_t cell_count)
 {
     railnoise_answer answer = { 12, 0, { true, 0, 0, false }, { true, 0, 0, false } };
     char copy[RAILNOISE_TEXT_LIMIT + 1];
@@ -255,6 +296,7 @@ railnoise_answer plain_levels(const uint8_t *text, size_t text_length, int32_t *
         answer.refusal = 24;
         return answer;
     }
+    work_out(&s);
     answer.day = period_result(&s, 0, cells);
     answer.night = period_result(&s, 1, cells + s.entry_count);
     return answer;

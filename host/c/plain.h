@@ -4,6 +4,8 @@
 
 #include "railnoise.h"
 
+/* Numbers by strtol, and by a digit loop. */
 railnoise_answer plain_levels(const uint8_t *text, size_t text_length, int32_t *cells, size_t cell_count);
+railnoise_answer digits_levels(const uint8_t *text, size_t text_length, int32_t *cells, size_t cell_count);
 
 #endif

@@ -6,21 +6,21 @@ use std::env;
 use std::path::{Path, PathBuf};
 use std::process::Command;
 
-/// Compiles host/c/plain.c and gives the object file.
-fn plain_object() -> PathBuf {
+/// Compiles host/c/plain.c with a flag into an object file of that name, and links it.
+fn link_plain(name: &str, flag: &str) {
     let here = PathBuf::from(env::var("CARGO_MANIFEST_DIR").expect("set by cargo"));
     let source = here.join("../c/plain.c");
     let include = here.join("../../include");
-    let object = PathBuf::from(env::var("OUT_DIR").expect("set by cargo")).join("plain.o");
+    let object = PathBuf::from(env::var("OUT_DIR").expect("set by cargo")).join(name);
     println!("cargo:rerun-if-changed={}", source.display());
     println!("cargo:rerun-if-changed={}", include.join("railnoise.h").display());
     let status = Command::new("gcc")
-        .args(["-std=c11", "-O2", "-Wall", "-Wextra", "-Werror", "-fPIC", "-c", "-I"])
+        .args(["-std=c11", "-O2", "-Wall", "-Wextra", "-Werror", "-fPIC", flag, "-c", "-I"])
         .args([&include, Path::new("-o"), &object, &source])
         .status()
         .expect("gcc runs");
     assert!(status.success(), "plain.c does not compile");
-    object
+    println!("cargo:rustc-link-arg-bins={}", object.display());
 }
 
 fn main() {
@@ -28,7 +28,8 @@ fn main() {
     println!("cargo:rerun-if-changed=build.rs");
     println!("cargo:rerun-if-env-changed=RAILNOISE_ARCHIVE");
     println!("cargo:rerun-if-env-changed=LINK_FLAGS");
-    println!("cargo:rustc-link-arg-bins={}", plain_object().display());
+    link_plain("plain.o", "-UDIGIT_LOOP");
+    link_plain("digits.o", "-DDIGIT_LOOP");
     let mock = env::var_os("CARGO_FEATURE_MOCK").is_some();
     if let (false, Some(archive)) = (mock, env::var_os("RAILNOISE_ARCHIVE")) {
         let archive = Path::new(&archive).canonicalize().expect("RAILNOISE_ARCHIVE names a file");

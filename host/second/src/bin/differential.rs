@@ -1,6 +1,6 @@
 //! Holds railnoise_levels, or the plain C program, against the second implementation on many texts.
 //!
-//! differential [--of product|plain] [--only INDEX] [--dump] [--corpus DIRECTORY] SEED COUNT
+//! differential [--of product|plain|digits] [--only INDEX] [--dump] [--corpus DIRECTORY] SEED COUNT
 //!
 //! One summary line; exit 1 at the first difference, with its text. The plain program is not
 //! expected to agree: its misreadings are counted, and the exit is 0. --dump writes texts and
@@ -25,6 +25,7 @@ extern "C" {
     #[cfg(product)]
     fn railnoise_levels(text: *const u8, text_length: usize, cells: *mut i32, cell_count: usize) -> Answer;
     fn plain_levels(text: *const u8, text_length: usize, cells: *mut i32, cell_count: usize) -> Answer;
+    fn digits_levels(text: *const u8, text_length: usize, cells: *mut i32, cell_count: usize) -> Answer;
     fn signal(number: i32, handler: extern "C" fn(i32)) -> usize;
     fn write(file: i32, bytes: *const u8, length: usize) -> isize;
     fn _exit(status: i32) -> !;
@@ -56,7 +57,8 @@ extern "C" fn crashed(_: i32) {
 }
 
 struct Options {
-    plain: bool,
+    /// The plain program's name and function, if one of its forms is tried and not the product.
+    plain: Option<(&'static str, Levels)>,
     only: Option<u64>,
     dump: bool,
     corpus: Option<PathBuf>,
@@ -65,18 +67,21 @@ struct Options {
 }
 
 fn usage() -> ! {
-    eprintln!("usage: differential [--of product|plain] [--only INDEX] [--dump] [--corpus DIRECTORY] SEED COUNT");
+    eprintln!(
+        "usage: differential [--of product|plain|digits] [--only INDEX] [--dump] [--corpus DIRECTORY] SEED COUNT"
+    );
     exit(2)
 }
 
 fn options() -> Options {
-    let mut options = Options { plain: false, only: None, dump: false, corpus: None, seed: 0, count: 0 };
+    let mut options = Options { plain: None, only: None, dump: false, corpus: None, seed: 0, count: 0 };
     let mut numbers = Vec::new();
     let mut words = std::env::args().skip(1);
     while let Some(word) = words.next() {
         match word.as_str() {
             "--of" => match words.next().as_deref() {
-                Some("plain") => options.plain = true,
+                Some("plain") => options.plain = Some(("plain", plain_levels)),
+                Some("digits") => options.plain = Some(("digits", digits_levels)),
                 Some("product") => {}
                 _ => usage(),
             },
@@ -217,13 +222,13 @@ fn try_text(options: &Options, bench: &mut Bench, index: u64, summary: &mut Summ
     }
     match check(&case.text, &before, &after, &answer) {
         Ok(report) => summary.add(case.kind, report),
-        Err(found) if options.plain => {
+        Err(found) if options.plain.is_some() => {
             let good = if read(&case.text).is_ok() { "good" } else { "bad" };
             *summary.misread.entry(format!("{good} {:?}", found.part)).or_default() += 1;
         }
         Err(found) => fail(options, index, &case, &answer, &found),
     }
-    if !options.plain && random.chance(15) {
+    if options.plain.is_none() && random.chance(15) {
         let other: Vec<i32> = before.iter().map(|cell| !cell).collect();
         let (again, _) = bench.call(&case.text, &other, !at_end);
         if again != answer {
@@ -234,7 +239,7 @@ fn try_text(options: &Options, bench: &mut Bench, index: u64, summary: &mut Summ
 }
 
 /// The plain program's misreadings, of good texts and of bad ones.
-fn plain_line(summary: &Summary) -> String {
+fn plain_line(name: &str, summary: &Summary) -> String {
     let of = |kind: &str| -> u64 {
         summary.misread.iter().filter(|(name, _)| name.starts_with(kind)).map(|(_, count)| count).sum()
     };
@@ -243,7 +248,7 @@ fn plain_line(summary: &Summary) -> String {
     let (good, bad) = (of("good"), of("bad"));
     // A text with too few cells counts here as refused, though its text is good.
     format!(
-        "plain: misread {good} of {} good texts and {bad} of {} others ({})",
+        "{name}: misread {good} of {} good texts and {bad} of {} others ({})",
         summary.accepted + good,
         refused + bad,
         parts.join(", ")
@@ -263,9 +268,9 @@ fn main() {
         return write_corpus(&options, directory).expect("corpus written");
     }
     let levels = match (options.plain, PRODUCT) {
-        (true, _) => plain_levels as Levels,
-        (false, Some(levels)) => levels,
-        (false, None) => {
+        (Some((_, levels)), _) => levels,
+        (None, Some(levels)) => levels,
+        (None, None) => {
             eprintln!("built without an archive: set RAILNOISE_ARCHIVE, or build with --features mock");
             exit(2)
         }
@@ -285,7 +290,7 @@ fn main() {
         return;
     }
     println!("{}", summary.line(&options, start.elapsed().as_secs_f64()));
-    if options.plain {
-        println!("{}", plain_line(&summary));
+    if let Some((name, _)) = options.plain {
+        println!("{}", plain_line(name, &summary));
     }
 }
