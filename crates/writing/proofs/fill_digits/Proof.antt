@@ -36,14 +36,10 @@ fill-digits-spec =
     Inv-loop
     μ-loop
     loop-holds
-    (λ c. search needs)
-    (λ c. search needs)
-    (λ c. search needs)
+    (λ c. search needs) (λ c. search needs) (λ c. search needs)
     sub-i
     (λ c. search needs)
     loop-again
-    (λ c. search needs)
-    (λ c. search needs)
-    (λ c. search needs)
+    (λ c. search needs) (λ c. search needs) (λ c. search needs)
     same-length
     returns)
