@@ -44,7 +44,7 @@ short EntryLimit = record { number = omega arith; words = omega arith }
 short NoEntry = record { number = omega arith; words = omega arith }
 short FewCells = record { number = omega arith; words = omega arith }
 
-refused-length : (r : Refusal) (line : ℕ) → line < 2 ^ 64 → length (refusedOf r line) ≤ 36
+pub refused-length : (r : Refusal) (line : ℕ) → line < 2 ^ 64 → length (refusedOf r line) ≤ 36
 unfolding refusedOf flatten
 refused-length r line h =
     simp (length-append, append-nil) (omega (arith, digits-length 1 (numberOf r) (omega (arith, short r .number)), digits-length 19 line (omega arith)))
@@ -57,7 +57,7 @@ pub refused-front : (r : Refusal) (line : ℕ) {before after : List ℕ} {count 
 unfolding refusedOf
 refused-front r line h l p = front p refl (omega (arith, refused-length r line h))
 
-notice-length : (r : Refusal) (line : ℕ) → line < 2 ^ 64 → length (noticeOf r line) ≤ 450
+pub notice-length : (r : Refusal) (line : ℕ) → line < 2 ^ 64 → length (noticeOf r line) ≤ 450
 unfolding noticeOf flatten
 notice-length r line h = simp (length-append, append-nil) (omega (arith, refused-length r line h, short r .words))
 

@@ -131,6 +131,13 @@ front {before} {bytes} {after} {parts} {count} p same h =
     let taken : take count after ≡ bytes = rw (counted, held) (take-append-seam bytes (drop (length bytes) before)) in
     record { inside = omega (arith, simp length-append at (ap length held)); these = taken; long = rw taken counted }
 
+pub front-alone : {before bytes after : List ℕ} {count : ℕ} → Put before 0 bytes after count → length bytes ≤ length before → Front bytes after count
+unfolding flatten
+front-alone {bytes = bytes} p h = front (alone p) (append-nil bytes) h
+
+pub front-short : {bytes after : List ℕ} {count : ℕ} → Front bytes after count → length bytes ≤ length after
+front-short f = omega (arith, ap length (f .these), f .long, f .inside)
+
 -- and are then put elsewhere as one
 pub put-front : {bytes word before after : List ℕ} {count at next : ℕ}
     → Front bytes word count
