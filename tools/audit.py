@@ -15,6 +15,7 @@ import sys
 # Functions that may be longer, with the reason.
 LONG = {
     "text segment_of": "document 01 asks for a `let .. else` for each of the 14 fields",
+    "words put_words": "an arm for each refusal, whose words are one long line",
 }
 # Written by tools/tables.py: many entries of a table are the same number.
 TABLES = {"crates/decibel/src/thresholds.rt", "crates/energy/src/weights.rt"}
