@@ -14,7 +14,7 @@ use Rattle.decibel.specs.declared.Level.the-variants.{Silent, Figure}
 use Rattle.steps.specs.declared.Refusal.{Refusal}
 use Rattle.study.specs.declared.request.PeriodResult.{PeriodResult}
 use Rattle.writing.specs.Bytes.{ascii, digitsOf, figureOf}
-use Rattle.writing.specs.Pages.{Put, PutEach}
+use Rattle.writing.specs.Pages.{Put}
 use Rattle.writing.proofs.Digits.{digits-length}
 use Rattle.writing.proofs.Lengths.{figure-length}
 use Rattle.writing.proofs.Pages.{Front, alone, also, also-each, front}

@@ -20,7 +20,6 @@ use Rattle.writing.proofs.Pages.{Front, front-alone, put-nothing}
 use Rattle.words.specs.Words.{noticeOf}
 use Rattle.words.proofs.Notices.{notice-length}
 use Rattle.report.specs.declared.Outcome.{Outcome}
-use Rattle.report.specs.declared.Written.{Written}
 use Rattle.report.specs.Report.{resultsOf, refusalLine, planIn, answerTo, outcomeOf, reportBy, noticeBy, reportOf, noticeFor, reportRoom, Reported}
 use Rattle.report.proofs.Lines.{refusal-length}
 

@@ -1,7 +1,7 @@
 -- How long numbers are at most, and that they stand whole in an array with room for them.
 -- Assumes nothing.
 use mathlib.Core.Path.{_≡_}
-use mathlib.Core.List.{List, [], _∷_, _++_, append-assoc, append-nil, flatten}
+use mathlib.Core.List.{List, [], _∷_, append-nil, flatten}
 use Prim.Native.Nat.{ℕ, _/_, _%_, _≤_}
 use native.Mathlib.Omega.{arith}
 use lib.IntN.{ℤ, pos, negsuc, natAbs}
