@@ -90,7 +90,7 @@ pub results-front : (day night : PeriodResult) {before first second after : List
     → Front (resultsOf day night) after count
 unfolding resultsOf flatten
 results-front day night l h d n =
-    front (also h (also-each (d .put) (n .put))) refl (simp (length-append, flatten-length) (omega (arith, d .few, n .few)))
+    front (also h (also-each (d .put) (n .put))) refl (simp flatten-length (omega (arith, d .few, n .few)))
 
 pub refusal-length : (r : Refusal) (line : ℕ) → line < 2 ^ 64 → length (refusalLine r line) ≤ 37
 unfolding refusalLine flatten

@@ -13,6 +13,36 @@ use lib.Dec.{leb}
 use Rattle.writing.specs.Bytes.{digitsOf}
 use Rattle.writing.proofs.Digits.{digits-small, digits-large}
 
+-- what is written of a number begins with a digit, which is no zero where the number is none
+pub record First (n : ℕ) : Type 0 where
+  pub first : ℕ
+  pub rest : List ℕ
+  pub digits : digitsOf n ≡ first ∷ rest
+  pub low : 48 ≤ first
+  pub high : first ≤ 57
+  pub above : 0 < n → 48 < first
+
+first-within : (fuel n : ℕ) → n < fuel → First n
+first-within zero n h = absurd (omega arith)
+first-within (suc fuel) n h = go (λ l. first-within fuel (n / 10) l) (decLt n 10)
+  where
+    go : (n / 10 < fuel → First (n / 10)) → Dec (n < 10) → First n
+    go before (yes l) =
+        record { first = 48 + n; rest = []; digits = digits-small n l; low = omega arith; high = omega arith; above = λ p. omega arith }
+    go before (no f) =
+        let b = before (omega arith) in
+        record {
+          first = b .first;
+          rest = b .rest ++ ((48 + n % 10) ∷ []);
+          digits = digits-large n (omega arith) ∙ rw (b .digits);
+          low = b .low;
+          high = b .high;
+          above = λ p. b .above (omega arith);
+        }
+
+pub first-digit : (n : ℕ) → First n
+first-digit n = first-within (suc n) n (omega arith)
+
 -- the value of digits that follow digits of the value so far; none where a byte is no digit
 pub record Reader (read : ℕ → List ℕ → Option ℕ) : Type 0 where
   pub ends : (n : ℕ) → read n [] ≡ some n
@@ -73,3 +103,14 @@ module _ (read : ℕ → List ℕ → Option ℕ) (reader : Reader read) where
       let first : 0 * 10 + (b - 48) ≡ b - 48 = omega arith in
       let same : 48 + (b - 48) ≡ b = omega (arith, d .low) in
       follows (b - 48) bs n (omega arith) (rw first at (d .rest)) ∙ rw (digits-small (b - 48) (omega (arith, d .high)), same)
+
+  -- and so does a digit by itself
+  pub only-digit : (b n : ℕ) → read 0 (b ∷ []) ≡ some n → digitsOf n ≡ b ∷ []
+  only-digit b n e =
+      let d = digit 0 b [] n e in
+      let value : 0 * 10 + (b - 48) ≡ n = cc (d .rest, reader .ends (0 * 10 + (b - 48))) in
+      let same : 48 + n ≡ b = omega (arith, value, d .low) in
+      digits-small n (omega (arith, value, d .high)) ∙ rw same
+
+  pub not-below : (b : ℕ) (bs : List ℕ) (n : ℕ) → read 0 (b ∷ bs) ≡ some n → 48 ≤ b
+  not-below b bs n e = digit 0 b bs n e .low
