@@ -14,9 +14,9 @@ use lib.ListN.{length, getD}
 use Rattle.text.specs.Numbers.{decimal, unsigned, negated, plain, valueOf}
 use Rattle.writing.specs.Bytes.{digitsOf, sign, signedOf}
 use Rattle.writing.proofs.Digits.{digits-small, digits-length, one-digit}
-use Rattle.writing.proofs.Forms.{Reader, First, first-digit, reads-back, only-form, only-digit, not-below}
+use Rattle.writing.proofs.Forms.{DigitReader, First, first-digit, reads-back, only-form, only-digit, not-below}
 
-reader : Reader decimal
+reader : DigitReader decimal
 unfolding decimal
 reader = record { ends = λ n. refl; goes = λ n b bs. refl }
 

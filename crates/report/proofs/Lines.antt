@@ -17,11 +17,11 @@ use Rattle.writing.specs.Bytes.{ascii, digitsOf, figureOf}
 use Rattle.writing.specs.Pages.{Put}
 use Rattle.writing.proofs.Digits.{digits-length}
 use Rattle.writing.proofs.Lengths.{figure-length}
-use Rattle.writing.proofs.Pages.{Front, alone, also, also-each, front}
+use Rattle.writing.proofs.Pages.{AtFront, alone, also, also-each, at-front}
 use Rattle.words.specs.Words.{refusedOf}
 use Rattle.words.proofs.Notices.{refused-length}
 use Rattle.report.specs.Bytes.{level, verdict}
-use Rattle.report.specs.Report.{resultParts, periodParts, resultsOf, refusalLine}
+use Rattle.report.specs.Report.{resultParts, periodParts, answerLines, refusalLine}
 use Rattle.report.specs.Private.{PutWithin}
 
 flatten-length : (ps qs : List (List ℕ)) → length (flatten (ps ++ qs)) ≡ length (flatten ps) + length (flatten qs)
@@ -82,15 +82,15 @@ period-put name r n p f =
 
 -- ---- the report of an answer and of a refusal
 
-pub results-front : (day night : PeriodResult) {before first second after : List ℕ} {i j count : ℕ}
+pub answer-front : (day night : PeriodResult) {before first second after : List ℕ} {i j count : ℕ}
     → length before ≡ 96
     → Put before 0 (ascii "period level close met\n") first i
     → PutWithin 32 first i (periodParts (ascii "day ") day) second j
     → PutWithin 34 second j (periodParts (ascii "night ") night) after count
-    → Front (resultsOf day night) after count
-unfolding resultsOf flatten
-results-front day night l h d n =
-    front (also h (also-each (d .put) (n .put))) refl (simp flatten-length (omega (arith, d .few, n .few)))
+    → AtFront (answerLines day night) after count
+unfolding answerLines flatten
+answer-front day night l h d n =
+    at-front (also h (also-each (d .put) (n .put))) refl (simp flatten-length (omega (arith, d .few, n .few)))
 
 pub refusal-length : (r : Refusal) (line : ℕ) → line < 2 ^ 64 → length (refusalLine r line) ≤ 37
 unfolding refusalLine flatten
@@ -101,6 +101,6 @@ pub refusal-front : (r : Refusal) (line : ℕ) {before first after : List ℕ} {
     → length before ≡ 37
     → Put before 0 (refusedOf r line) first i
     → Put first i (ascii "\n") after count
-    → Front (refusalLine r line) after count
+    → AtFront (refusalLine r line) after count
 unfolding refusalLine
-refusal-front r line h l p f = front (also p (alone f)) refl (omega (arith, refusal-length r line h))
+refusal-front r line h l p f = at-front (also p (alone f)) refl (omega (arith, refusal-length r line h))

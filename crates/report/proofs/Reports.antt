@@ -16,11 +16,11 @@ use Rattle.study.specs.Levels.{MarksAllowed, ownMarks}
 use Rattle.text.specs.declared.Reading.{Reading}
 use Rattle.text.specs.Text.{readText}
 use Rattle.writing.specs.Pages.{Put}
-use Rattle.writing.proofs.Pages.{Front, front-alone, put-nothing}
+use Rattle.writing.proofs.Pages.{AtFront, at-front-alone, put-nothing}
 use Rattle.words.specs.Words.{noticeOf}
 use Rattle.words.proofs.Notices.{notice-length}
 use Rattle.report.specs.declared.Outcome.{Outcome}
-use Rattle.report.specs.Report.{resultsOf, refusalLine, planIn, answerTo, outcomeOf, reportBy, noticeBy, reportOf, noticeFor, reportRoom, Reported}
+use Rattle.report.specs.Report.{answerLines, refusalLine, planIn, answerTo, outcomeOf, reportBy, noticeBy, reportOf, noticeFor, reportRoom, Reported}
 use Rattle.report.proofs.Lines.{refusal-length}
 
 -- a text is read, then its levels asked for
@@ -42,8 +42,8 @@ pub text-answered : (text : List ℕ) {out notice outAfter : List ℕ} {r : Outc
     → r ≡ outcomeOf text
     → MarksAllowed (planIn text) (ownMarks (planIn text))
     → r .check ≡ Accepted
-    → Put out 0 (resultsOf (r .day) (r .night)) outAfter count
-    → length (resultsOf (r .day) (r .night)) ≤ reportRoom
+    → Put out 0 (answerLines (r .day) (r .night)) outAfter count
+    → length (answerLines (r .day) (r .night)) ≤ reportRoom
     → Reported text out notice outAfter notice (record { output = count; notice = 0 })
 unfolding reportOf noticeFor reportBy noticeBy
 text-answered text {notice = notice} e m h p l =
@@ -63,9 +63,9 @@ text-refused text {r = r} why e m h l p q =
     record { output = rw (← e, h) p; outputRoom = rw (← e, h) short; told = rw (← e, h) q; toldRoom = rw (← e, h) (notice-length why (r .line) l); allowed = m }
 
 -- with the room that a report or a notice asks for, all of it is at the front
-pub written : {before bytes after : List ℕ} {count most : ℕ}
+pub whole-at-front : {before bytes after : List ℕ} {count most : ℕ}
     → Put before 0 bytes after count
     → length bytes ≤ most
     → length before ≡ most
-    → Front bytes after count
-written p h l = front-alone p (omega arith)
+    → AtFront bytes after count
+whole-at-front p h l = at-front-alone p (omega arith)

@@ -31,8 +31,8 @@ resultParts r = level (r .level) ∷ ascii " " ∷ digitsOf (r .close) ∷ ascii
 unfoldable pub periodParts : List ℕ → PeriodResult → List (List ℕ)
 periodParts name r = name ∷ (resultParts r ++ (ascii "\n" ∷ []))
 
-unfoldable pub resultsOf : PeriodResult → PeriodResult → List ℕ
-resultsOf day night =
+unfoldable pub answerLines : PeriodResult → PeriodResult → List ℕ
+answerLines day night =
     flatten (ascii "period level close met\n" ∷ (periodParts (ascii "day ") day ++ periodParts (ascii "night ") night))
 
 -- the one line of a refusal, with 01's number and the line of the text
@@ -65,7 +65,7 @@ outcomeOf text =
 -- ---- the report and the notice
 
 unfoldable pub reportBy : Check → ℕ → PeriodResult → PeriodResult → List ℕ
-reportBy Accepted line day night = resultsOf day night
+reportBy Accepted line day night = answerLines day night
 reportBy (Refused r) line day night = refusalLine r line
 
 -- a text that is answered has none

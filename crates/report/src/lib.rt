@@ -6,7 +6,7 @@ ghost use lib.ListN.{length};
 ghost use Rattle.study.specs.Levels.{MarksAllowed, ownMarks};
 ghost use Rattle.writing.specs.Pages.{Put};
 ghost use Rattle.report.specs.Bytes.{level as Bytes·level, verdict};
-ghost use Rattle.report.specs.Report.{resultParts, periodParts, resultsOf, refusalLine, planIn, outcomeOf, reportRoom, Reported};
+ghost use Rattle.report.specs.Report.{resultParts, periodParts, answerLines, refusalLine, planIn, outcomeOf, reportRoom, Reported};
 ghost use Rattle.report.specs.Private.{PutWithin};
 use decibel::Level;
 use steps::Check;
@@ -88,7 +88,7 @@ fn put_period(out: &mut [u8], at: usize, name: &[u8], result: PeriodResult) -> u
 }
 
 fn put_results(out: &mut [u8], day: PeriodResult, night: PeriodResult) -> usize
-    ensures { λ r. ⌜ Put (now (out .entry)) 0 (resultsOf day night) (now (out .exit)) r × (length (resultsOf day night) ≤ reportRoom) ⌝ }
+    ensures { λ r. ⌜ Put (now (out .entry)) 0 (answerLines day night) (now (out .exit)) r × (length (answerLines day night) ≤ reportRoom) ⌝ }
 {
     let mut lines = [0u8; 96];
     let headed = writing::put(&mut lines, 0, b"period level close met\n");

@@ -11,7 +11,7 @@ use Rattle.steps.specs.Refusal.{numberOf}
 use Rattle.writing.specs.Bytes.{ascii, digitsOf}
 use Rattle.writing.specs.Pages.{Put, PutEach}
 use Rattle.writing.proofs.Digits.{digits-length}
-use Rattle.writing.proofs.Pages.{Front, front}
+use Rattle.writing.proofs.Pages.{AtFront, at-front}
 use Rattle.words.specs.Words.{wordsOf, refusedOf, noticeOf}
 
 -- the words of the refusal that is at hand
@@ -53,9 +53,9 @@ pub refused-front : (r : Refusal) (line : ℕ) {before after : List ℕ} {count 
     → line < 2 ^ 64
     → length before ≡ 36
     → PutEach before 0 (ascii "refused " ∷ digitsOf (numberOf r) ∷ ascii " line " ∷ digitsOf line ∷ []) after count
-    → Front (refusedOf r line) after count
+    → AtFront (refusedOf r line) after count
 unfolding refusedOf
-refused-front r line h l p = front p refl (omega (arith, refused-length r line h))
+refused-front r line h l p = at-front p refl (omega (arith, refused-length r line h))
 
 pub notice-length : (r : Refusal) (line : ℕ) → line < 2 ^ 64 → length (noticeOf r line) ≤ 450
 unfolding noticeOf flatten
@@ -65,6 +65,6 @@ pub notice-front : (r : Refusal) (line : ℕ) {before after : List ℕ} {count :
     → line < 2 ^ 64
     → length before ≡ 450
     → PutEach before 0 (ascii "railnoise: " ∷ refusedOf r line ∷ ascii ": " ∷ wordsOf r ∷ ascii "\n" ∷ []) after count
-    → Front (noticeOf r line) after count
+    → AtFront (noticeOf r line) after count
 unfolding noticeOf
-notice-front r line h l p = front p refl (omega (arith, notice-length r line h))
+notice-front r line h l p = at-front p refl (omega (arith, notice-length r line h))

@@ -67,18 +67,18 @@ from-set xs i x h =
 -- room for the digits of `rest` up to index i, and after them the others of n
 pub record Filling (n rest i : ℕ) (digits : List ℕ) : Type 0 where
   pub inside : i < length digits
-  pub enough : length (digitsOf rest) ≤ i + 1
+  pub room : length (digitsOf rest) ≤ i + 1
   pub others : digitsOf rest ++ drop (i + 1) digits ≡ digitsOf n
 
 pub filling-begins : (n : ℕ) (digits : List ℕ) → length digits ≡ 20 → n < 2 ^ 64 → Filling n n 19 digits
 filling-begins n digits l h =
     let low : length digits ≤ 20 = omega arith in
     let past : drop 20 digits ≡ [] = drop-of-length-le digits low in
-    record { inside = omega arith; enough = digits-length 19 n (omega arith); others = rw (past, append-nil) refl }
+    record { inside = omega arith; room = digits-length 19 n (omega arith); others = rw (past, append-nil) refl }
 
 -- a number of two digits or more does not take the last place
 pub filling-room : {n rest i : ℕ} {digits : List ℕ} → Filling n rest i digits → 9 < rest → 1 ≤ i
-filling-room {rest = rest} f h = omega (arith, simp length-append at (rw (digits-large rest (omega arith)) at (f .enough)), one-digit (rest / 10))
+filling-room {rest = rest} f h = omega (arith, simp length-append at (rw (digits-large rest (omega arith)) at (f .room)), one-digit (rest / 10))
 
 pub filling-goes-on : {n rest i : ℕ} {digits : List ℕ}
     → Filling n rest i digits
@@ -88,7 +88,7 @@ filling-goes-on {n} {rest} {i} {digits} f h =
     let e : i - 1 + 1 ≡ i = omega (arith, filling-room f h) in
     record {
       inside = simp length-set (omega (arith, f .inside));
-      enough = omega (arith, simp length-append at (rw (digits-large rest (omega arith)) at (f .enough)));
+      room = omega (arith, simp length-append at (rw (digits-large rest (omega arith)) at (f .room)));
       others = rw (e, from-set digits i (48 + rest % 10) (f .inside)) (rw (digits-large rest (omega arith), append-assoc (digitsOf (rest / 10)) ((48 + rest % 10) ∷ []) (drop (i + 1) digits)) at (f .others));
     }
 

@@ -44,11 +44,11 @@ pub first-digit : (n : ℕ) → First n
 first-digit n = first-within (suc n) n (omega arith)
 
 -- the value of digits that follow digits of the value so far; none where a byte is no digit
-pub record Reader (read : ℕ → List ℕ → Option ℕ) : Type 0 where
+pub record DigitReader (read : ℕ → List ℕ → Option ℕ) : Type 0 where
   pub ends : (n : ℕ) → read n [] ≡ some n
   pub goes : (n b : ℕ) (bs : List ℕ) → read n (b ∷ bs) ≡ cond (leb 48 b && leb b 57) (read (n * 10 + (b - 48)) bs) none
 
-module _ (read : ℕ → List ℕ → Option ℕ) (reader : Reader read) where
+module _ (read : ℕ → List ℕ → Option ℕ) (reader : DigitReader read) where
   -- a byte that is read is a digit, and the rest is read after it
   pub record Digit (acc b : ℕ) (bs : List ℕ) (n : ℕ) : Type 0 where
     pub low : 48 ≤ b
@@ -80,9 +80,9 @@ module _ (read : ℕ → List ℕ → Option ℕ) (reader : Reader read) where
       follows more bs n (omega arith) (d .rest) ∙ rw (digits-large more (omega arith), tens, ones) (append-assoc (digitsOf acc) (b ∷ []) bs)
 
   -- what is written of a number, then more digits, reads as the number with these after it
-  written : (fuel n : ℕ) (bs : List ℕ) → n < fuel → read 0 (digitsOf n ++ bs) ≡ read n bs
-  written zero n bs h = absurd (omega arith)
-  written (suc fuel) n bs h = go (λ l. written fuel (n / 10) ((48 + n % 10) ∷ bs) l) (decLt n 10)
+  read-on : (fuel n : ℕ) (bs : List ℕ) → n < fuel → read 0 (digitsOf n ++ bs) ≡ read n bs
+  read-on zero n bs h = absurd (omega arith)
+  read-on (suc fuel) n bs h = go (λ l. read-on fuel (n / 10) ((48 + n % 10) ∷ bs) l) (decLt n 10)
     where
       go : (n / 10 < fuel → read 0 (digitsOf (n / 10) ++ ((48 + n % 10) ∷ bs)) ≡ read (n / 10) ((48 + n % 10) ∷ bs)) → Dec (n < 10) → read 0 (digitsOf n ++ bs) ≡ read n bs
       go before (yes l) =
@@ -94,7 +94,7 @@ module _ (read : ℕ → List ℕ → Option ℕ) (reader : Reader read) where
           (before (omega arith) ∙ rw (reader .goes (n / 10) (48 + n % 10) bs, le-leb 48 (48 + n % 10) (omega arith), le-leb (48 + n % 10) 57 (omega arith), e))
 
   pub reads-back : (n : ℕ) → read 0 (digitsOf n) ≡ some n
-  reads-back n = rw (append-nil (digitsOf n)) at (written (n + 1) n [] (omega arith)) ∙ reader .ends n
+  reads-back n = rw (append-nil (digitsOf n)) at (read-on (n + 1) n [] (omega arith)) ∙ reader .ends n
 
   -- a first digit that is no zero leaves one way to write the number
   pub only-form : (b : ℕ) (bs : List ℕ) (n : ℕ) → 48 < b → read 0 (b ∷ bs) ≡ some n → digitsOf n ≡ b ∷ bs

@@ -11,7 +11,7 @@ use mir.Val.{SFits}
 use Rattle.writing.specs.Bytes.{ascii, digitsOf, sign, signedOf, withTenths, figureOf}
 use Rattle.writing.specs.Pages.{PutEach}
 use Rattle.writing.proofs.Digits.{digits-length}
-use Rattle.writing.proofs.Pages.{Front, front}
+use Rattle.writing.proofs.Pages.{AtFront, at-front}
 
 sign-length : (z : ℤ) → length (sign z) ≤ 1
 unfolding sign
@@ -41,9 +41,9 @@ pub signed-front : (z : ℤ) {before after : List ℕ} {count : ℕ}
     → SFits w32 z
     → length before ≡ 11
     → PutEach before 0 (signedParts z) after count
-    → Front (signedOf z) after count
+    → AtFront (signedOf z) after count
 unfolding signedOf flatten
-signed-front z f l p = front p (simp append-nil) (omega (arith, signed-length z f))
+signed-front z f l p = at-front p (simp append-nil) (omega (arith, signed-length z f))
 
 abbrev pub figureParts : ℤ → List (List ℕ)
 figureParts z = sign z ∷ digitsOf (natAbs z / 10) ∷ ascii "." ∷ digitsOf (natAbs z % 10) ∷ []
@@ -52,6 +52,6 @@ pub figure-front : (z : ℤ) {before after : List ℕ} {count : ℕ}
     → SFits w32 z
     → length before ≡ 12
     → PutEach before 0 (figureParts z) after count
-    → Front (figureOf z) after count
+    → AtFront (figureOf z) after count
 unfolding figureOf withTenths flatten
-figure-front z f l p = front p (simp append-nil) (omega (arith, figure-length z f))
+figure-front z f l p = at-front p (simp append-nil) (omega (arith, figure-length z f))

@@ -44,13 +44,13 @@ nothing-placed before at =
     let e : at + 0 ≡ at = omega arith in
     rw (append-nil (take at before), e, take-append-drop at before)
 
-either : (t : Bool) (p q : Page) → q ≡ p → cond t q p ≡ p
-either true p q e = e
-either false p q e = refl
+same-either-way : (t : Bool) (p q : Page) → q ≡ p → cond t q p ≡ p
+same-either-way true p q e = e
+same-either-way false p q e = refl
 
 nothing : (before : List ℕ) (at : ℕ) → putOn [] (page before at) ≡ page before at
 unfolding putOn
-nothing before at = either (leb (at + 0) (length before)) (page before at) (placed [] (page before at)) (nothing-placed before at)
+nothing before at = same-either-way (leb (at + 0) (length before)) (page before at) (placed [] (page before at)) (nothing-placed before at)
 
 pub put-nothing : (before : List ℕ) (at : ℕ) → Put before at [] before at
 put-nothing before at = record { written = sym (nothing before at) }
@@ -112,17 +112,17 @@ each-fits (new ∷ rest) before at h =
 -- ---- parts put at the front of an array that has room for all of them
 
 -- the first `count` bytes are these
-pub record Front (bytes after : List ℕ) (count : ℕ) : Type 0 where
+pub record AtFront (bytes after : List ℕ) (count : ℕ) : Type 0 where
   pub inside : count ≤ length after
   pub these : take count after ≡ bytes
   pub long : count ≡ length (take count after)
 
-pub front : {before bytes after : List ℕ} {parts : List (List ℕ)} {count : ℕ}
+pub at-front : {before bytes after : List ℕ} {parts : List (List ℕ)} {count : ℕ}
     → PutEach before 0 parts after count
     → flatten parts ≡ bytes
     → length bytes ≤ length before
-    → Front bytes after count
-front {before} {bytes} {after} {parts} {count} p same h =
+    → AtFront bytes after count
+at-front {before} {bytes} {after} {parts} {count} p same h =
     let room : 0 + length bytes ≤ length before = omega arith in
     let each : putEach parts (page before 0) ≡ putOn (flatten parts) (page before 0) = each-fits parts before 0 (rw same room) in
     let e : page after count ≡ placed bytes (page before 0) = p .written ∙ each ∙ rw same (put-fits before 0 bytes room) in
@@ -131,16 +131,16 @@ front {before} {bytes} {after} {parts} {count} p same h =
     let taken : take count after ≡ bytes = rw (counted, held) (take-append-seam bytes (drop (length bytes) before)) in
     record { inside = omega (arith, simp length-append at (ap length held)); these = taken; long = rw taken counted }
 
-pub front-alone : {before bytes after : List ℕ} {count : ℕ} → Put before 0 bytes after count → length bytes ≤ length before → Front bytes after count
+pub at-front-alone : {before bytes after : List ℕ} {count : ℕ} → Put before 0 bytes after count → length bytes ≤ length before → AtFront bytes after count
 unfolding flatten
-front-alone {bytes = bytes} p h = front (alone p) (append-nil bytes) h
+at-front-alone {bytes = bytes} p h = at-front (alone p) (append-nil bytes) h
 
-pub front-short : {bytes after : List ℕ} {count : ℕ} → Front bytes after count → length bytes ≤ length after
-front-short f = omega (arith, ap length (f .these), f .long, f .inside)
+pub at-front-short : {bytes after : List ℕ} {count : ℕ} → AtFront bytes after count → length bytes ≤ length after
+at-front-short f = omega (arith, ap length (f .these), f .long, f .inside)
 
 -- and are then put elsewhere as one
 pub put-front : {bytes word before after : List ℕ} {count at next : ℕ}
-    → Front bytes word count
+    → AtFront bytes word count
     → Put before at (take count word) after next
     → Put before at bytes after next
 put-front f p = rw (f .these) at p

@@ -29,15 +29,15 @@ whole (pos n) f e = record { whole = tt; unsigned = record { fits = omega (arith
 whole (negsuc n) f e = absurd (subst T e tt)
 
 -- the opposite of a number below zero
-pub record Negated (z : ℤ) : Type 0 where
+pub record Opposite (z : ℤ) : Type 0 where
   pub fits : SFits w64 (pos 0 -ℤ z)
   pub whole : T (nonNeg (pos 0 -ℤ z))
   pub unsigned : Fits w64 (natAbs (pos 0 -ℤ z))
   pub size : natAbs (pos 0 -ℤ z) ≡ natAbs z
 
-pub negated : (z : ℤ) → SFits w32 z → ltZ z (pos 0) ≡ true → Negated z
-negated (pos n) f e = absurd (omega (arith, ltb-true n 0 e))
-negated (negsuc n) f e =
+pub opposite : (z : ℤ) → SFits w32 z → ltZ z (pos 0) ≡ true → Opposite z
+opposite (pos n) f e = absurd (omega (arith, ltb-true n 0 e))
+opposite (negsuc n) f e =
     record { fits = record { sfits = omega (arith, f .sfits) }; whole = tt; unsigned = record { fits = omega (arith, f .sfits) }; size = omega arith }
 
 pub sign-below : (z : ℤ) → ltZ z (pos 0) ≡ true → sign z ≡ ascii "-"

@@ -1,14 +1,14 @@
 -- `report::put_refusal` meets its contract.
 -- Assumes nothing.
 use borrow.Author.Needs.{needs}
-use Rattle.writing.proofs.Pages.{Front, put-front}
+use Rattle.writing.proofs.Pages.{AtFront, put-front}
 use Rattle.report.specs.Report.{refusalLine}
 use Rattle.report.proofs.Lines.{refusal-front}
 use Rattle.report.proofs.put_refusal.Statement.{statement}
 use Rattle.report.proofs.put_refusal.Tie as tie
 
 -- the line stands at the front of `told`
-composed : (c : tie.After-put) → Front (refusalLine (c .before .before .before .before .before .before .before .args .refusal) (c .before .before .before .before .before .before .before .args .line)) (c .put .last .0) (c .put .result)
+composed : (c : tie.After-put) → AtFront (refusalLine (c .before .before .before .before .before .before .before .args .refusal) (c .before .before .before .before .before .before .before .args .line)) (c .put .last .0) (c .put .result)
 composed c =
     let start = c .before .before .before .before .before .before .before in
     refusal-front (start .args .refusal) (start .args .line) (start .fits .line .fits) (search needs) (c .before .before .before .before .put-refused .ensures) (c .put .ensures)

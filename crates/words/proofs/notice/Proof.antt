@@ -1,14 +1,14 @@
 -- `words::notice` meets its contract.
 -- Assumes nothing.
 use borrow.Author.Needs.{needs}
-use Rattle.writing.proofs.Pages.{Front, alone, also, put-front}
+use Rattle.writing.proofs.Pages.{AtFront, alone, also, put-front}
 use Rattle.words.specs.Words.{noticeOf}
 use Rattle.words.proofs.Notices.{notice-front}
 use Rattle.words.proofs.notice.Statement.{statement}
 use Rattle.words.proofs.notice.Tie as tie
 
 -- the five parts stand at the front of `told`
-composed : (c : tie.After-put3) → Front (noticeOf (c .before .before .before .before .before .before .before .before .before .before .before .before .before .before .before .before .before .before .args .refusal) (c .before .before .before .before .before .before .before .before .before .before .before .before .before .before .before .before .before .before .args .line)) (c .put3 .last .0) (c .put3 .result)
+composed : (c : tie.After-put3) → AtFront (noticeOf (c .before .before .before .before .before .before .before .before .before .before .before .before .before .before .before .before .before .before .args .refusal) (c .before .before .before .before .before .before .before .before .before .before .before .before .before .before .before .before .before .before .args .line)) (c .put3 .last .0) (c .put3 .result)
 composed c =
     let start = c .before .before .before .before .before .before .before .before .before .before .before .before .before .before .before .before .before .before in
     notice-front (start .args .refusal) (start .args .line) (start .fits .line .fits) (search needs)

@@ -1,14 +1,14 @@
 -- `words::put_refused` meets its contract.
 -- Assumes nothing.
 use borrow.Author.Needs.{needs}
-use Rattle.writing.proofs.Pages.{Front, alone, also, put-front}
+use Rattle.writing.proofs.Pages.{AtFront, alone, also, put-front}
 use Rattle.words.specs.Words.{refusedOf}
 use Rattle.words.proofs.Notices.{refused-front}
 use Rattle.words.proofs.put_refused.Statement.{statement}
 use Rattle.words.proofs.put_refused.Tie as tie
 
 -- the four parts stand at the front of `word`
-composed : (c : tie.After-put-decimal2) → Front (refusedOf (c .before .before .before .before .before .before .before .before .before .before .before .before .before .before .before .args .refusal) (c .before .before .before .before .before .before .before .before .before .before .before .before .before .before .before .args .line)) (c .put-decimal2 .last .0) (c .put-decimal2 .result)
+composed : (c : tie.After-put-decimal2) → AtFront (refusedOf (c .before .before .before .before .before .before .before .before .before .before .before .before .before .before .before .args .refusal) (c .before .before .before .before .before .before .before .before .before .before .before .before .before .before .before .args .line)) (c .put-decimal2 .last .0) (c .put-decimal2 .result)
 composed c =
     let start = c .before .before .before .before .before .before .before .before .before .before .before .before .before .before .before in
     refused-front (start .args .refusal) (start .args .line) (start .fits .line .fits) (search needs)

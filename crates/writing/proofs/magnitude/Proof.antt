@@ -1,13 +1,13 @@
 -- `writing::magnitude` meets its contract.
 -- Assumes nothing.
 use mir.Facts.{toZ-ofZ}
-use Rattle.writing.proofs.Signs.{wide, back-wide, Negated, negated, Whole, whole}
+use Rattle.writing.proofs.Signs.{wide, back-wide, Opposite, opposite, Whole, whole}
 use borrow.Author.Needs.{needs}
 use Rattle.writing.proofs.magnitude.Statement.{statement}
 use Rattle.writing.proofs.magnitude.Tie as tie
 
-minus : (c : tie.Then1) → Negated (c .before .args .n)
-minus c = negated (c .before .args .n) (c .before .fits .n) (rw (toZ-ofZ (c .before .fits .n)) at (c .if1 .taken))
+minus : (c : tie.Then1) → Opposite (c .before .args .n)
+minus c = opposite (c .before .args .n) (c .before .fits .n) (rw (toZ-ofZ (c .before .fits .n)) at (c .if1 .taken))
 
 plus : (c : tie.Else1) → Whole (c .before .args .n)
 plus c = whole (c .before .args .n) (c .before .fits .n) (rw (toZ-ofZ (c .before .fits .n)) at (c .if1 .left))

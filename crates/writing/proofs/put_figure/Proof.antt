@@ -3,13 +3,13 @@
 use mir.Facts.{toZ-ofZ}
 use borrow.Author.Needs.{needs}
 use Rattle.writing.specs.Bytes.{figureOf}
-use Rattle.writing.proofs.Pages.{Front, alone, also, put-front}
+use Rattle.writing.proofs.Pages.{AtFront, alone, also, put-front}
 use Rattle.writing.proofs.Lengths.{figure-front}
 use Rattle.writing.proofs.put_figure.Statement.{statement}
 use Rattle.writing.proofs.put_figure.Tie as tie
 
 -- the four parts of the figure stand at the front of `word`
-composed : (c : tie.After-put-decimal2) → Front (figureOf (c .before .before .before .before .before .before .before .before .before .before .before .before .before .before .args .tenths)) (c .put-decimal2 .last .0) (c .put-decimal2 .result)
+composed : (c : tie.After-put-decimal2) → AtFront (figureOf (c .before .before .before .before .before .before .before .before .before .before .before .before .before .before .args .tenths)) (c .put-decimal2 .last .0) (c .put-decimal2 .result)
 composed c =
     let start = c .before .before .before .before .before .before .before .before .before .before .before .before .before .before in
     let back = toZ-ofZ (start .fits .tenths) in

@@ -3,13 +3,13 @@
 use mir.Facts.{toZ-ofZ}
 use borrow.Author.Needs.{needs}
 use Rattle.writing.specs.Bytes.{signedOf}
-use Rattle.writing.proofs.Pages.{Front, alone, also, put-front}
+use Rattle.writing.proofs.Pages.{AtFront, alone, also, put-front}
 use Rattle.writing.proofs.Lengths.{signed-front}
 use Rattle.writing.proofs.put_signed.Statement.{statement}
 use Rattle.writing.proofs.put_signed.Tie as tie
 
 -- the sign and the digits stand at the front of `word`
-composed : (c : tie.After-put-decimal) → Front (signedOf (c .before .before .before .before .before .before .before .args .n)) (c .put-decimal .last .0) (c .put-decimal .result)
+composed : (c : tie.After-put-decimal) → AtFront (signedOf (c .before .before .before .before .before .before .before .args .n)) (c .put-decimal .last .0) (c .put-decimal .result)
 composed c =
     let start = c .before .before .before .before .before .before .before in
     let back = toZ-ofZ (start .fits .n) in
