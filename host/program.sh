@@ -1,5 +1,6 @@
 #!/bin/sh
 # Tries the built program on texts: what it writes is compared byte for byte with what document 01 says, and it must end with status 0.
+# Beside a refusal one line on standard error says the same in words; else nothing stands there.
 # Then the command around it, railnoise.sh, is tried by host/command.sh.
 #   host/program.sh [PROGRAM]
 # PROGRAM: by default target/bin/railnoise, as rt check railnoise builds it.
@@ -17,15 +18,23 @@ mkdir -p "$build"
 text=$build/program.text
 expected=$build/program.expected
 written=$build/program.written
-errors=$build/program.errors
+noticed=$build/program.noticed
 cases=0
 wrong=0
+
+# notice_fits EXPECTED: whether standard error has what belongs to EXPECTED, the words of a refusal being any
+notice_fits() {
+    case $1 in
+    refused*) [ "$(wc -l <"$noticed")" -eq 1 ] && grep -q "^railnoise: ${1%??}: [a-zA-Z]" "$noticed" ;;
+    *) [ ! -s "$noticed" ] ;;
+    esac
+}
 
 # judge NAME STATUS EXPECTED: holds what the program wrote, and its exit status, against EXPECTED and 0
 judge() {
     cases=$((cases + 1))
     printf %b "$3" >"$expected"
-    if [ "$2" -eq 0 ] && cmp -s "$expected" "$written"; then
+    if [ "$2" -eq 0 ] && cmp -s "$expected" "$written" && notice_fits "$3"; then
         echo "right: $1"
         return
     fi
@@ -33,13 +42,13 @@ judge() {
     echo "WRONG: $1: status $2"
     sed 's/^/    expected: /' "$expected"
     sed 's/^/    written:  /' "$written"
-    sed 's/^/    errors:   /' "$errors"
+    sed 's/^/    noticed:  /' "$noticed"
 }
 
 # run NAME EXPECTED: the program on the text that stands in $text
 run() {
     status=0
-    "$program" <"$text" >"$written" 2>"$errors" || status=$?
+    "$program" <"$text" >"$written" 2>"$noticed" || status=$?
     judge "$1" "$status" "$2"
 }
 
@@ -102,6 +111,7 @@ full 301 >"$text"
 run 'refused at the last line of a full study' 'refused 9 line 121\n'
 
 refused 'speed 19' "1 1\n$near 0 0 0 0\n1 19 1 1 1\n" 9 3
+grep -qx 'railnoise: refused 9 line 3: speed must be 20 to 300 km/h' "$noticed" || { echo 'WRONG: the words of refusal 9'; wrong=$((wrong + 1)); }
 refused 'two digits of a refusal' "1 1\n$near 0 0 0 0\n1 100 61 1 1\n" 10 3
 refused 'distance 999' '1 1\n999 0 600 0 180 180 0 0 0 0 0 0 0 0\n1 100 1 1 1\n' 1 2
 refused 'missing line' '1 1\n' 13 2
@@ -122,11 +132,11 @@ run 'sample and spaces, 16385 bytes' 'refused 12 line 0\n'
 
 # The first piece ends inside a number. The pipe's status is the program's.
 status=0
-{ head -c 11 "$sample"; sleep 1; tail -c +12 "$sample"; } | "$program" >"$written" 2>"$errors" || status=$?
+{ head -c 11 "$sample"; sleep 1; tail -c +12 "$sample"; } | "$program" >"$written" 2>"$noticed" || status=$?
 judge 'sample in two pieces' "$status" "$(lines '62.9 0 no' '56.3 0 no')"
 
 status=0
-"$program" <&- >"$written" 2>"$errors" || status=$?
+"$program" <&- >"$written" 2>"$noticed" || status=$?
 judge 'standard input closed: as an empty text' "$status" 'refused 13 line 1\n'
 
 echo "$cases cases, $wrong wrong"

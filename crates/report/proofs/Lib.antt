@@ -1,5 +1,3 @@
-pub mod Places
-pub mod Signs
-pub mod Decimal
-pub mod Lengths
+pub mod Lines
 pub mod Reports
+pub mod Forms

@@ -1,55 +1,71 @@
--- Laws of the whole report: of a study, of a text, and of what `out` then holds.
+-- Laws of the whole report: from what a text comes to, and what is then lent and counted.
 -- Assumes nothing.
-use mathlib.Core.Path.{_≡_, _∙_, ap}
-use mathlib.Core.Bool.{Bool, true, false, cond}
-use mathlib.Core.List.{List, _++_}
-use Prim.Native.Nat.{ℕ, _<_, _≤_}
-use native.Mathlib.Nat.{zero-add}
+use mathlib.Core.Path.{_≡_}
+use mathlib.Core.List.{List}
+use Prim.Native.Nat.{ℕ, _<_, _≤_, _^_}
 use native.Mathlib.Omega.{arith}
-use borrow.Author.Tests.{le-leb, lt-leb}
-use lib.Dec.{leb}
-use lib.ListN.{length, drop, length-append}
+use lib.ListN.{length}
 use Rattle.steps.specs.declared.Refusal.{Refusal}
 use Rattle.steps.specs.declared.Check.the-variants.{Accepted, Refused}
-use Rattle.study.specs.declared.Study.{Study}
+use Rattle.steps.specs.declared.Check.{Check}
+use Rattle.steps.specs.Refusal.{firstRefused}
 use Rattle.study.specs.declared.request.Answer.{Answer}
 use Rattle.study.specs.Add.{ours}
 use Rattle.study.specs.Plan.{planOf}
+use Rattle.study.specs.Levels.{MarksAllowed, ownMarks}
 use Rattle.text.specs.declared.Reading.{Reading}
 use Rattle.text.specs.Text.{readText}
-use Rattle.report.specs.Parts.{Put}
-use Rattle.report.specs.Report.{results, refusalLine, answerReport, answerTo, studyReport, readingReport, reportOf, Reported}
+use Rattle.writing.specs.Pages.{Put}
+use Rattle.writing.proofs.Pages.{AtFront, at-front-alone, put-nothing}
+use Rattle.words.specs.Words.{noticeOf}
+use Rattle.words.proofs.Notices.{notice-length}
+use Rattle.report.specs.declared.Outcome.{Outcome}
+use Rattle.report.specs.Report.{answerLines, refusalLine, planIn, answerTo, outcomeOf, reportBy, noticeBy, reportOf, noticeFor, reportRoom, Reported}
+use Rattle.report.proofs.Lines.{refusal-length}
 
-pub study-answered : (st : Study) {r : Answer} → r ≡ answerTo (planOf st) → r .check ≡ Accepted → studyReport st ≡ results (r .day) (r .night)
-unfolding studyReport answerReport
-study-answered st e h = rw (← e, h)
+-- a text is read, then its levels asked for
+pub outcome-is : (text : List ℕ) {reading : Reading} {answer : Answer} {check : Check}
+    → reading ≡ readText ours text
+    → answer ≡ answerTo (planOf (reading .study))
+    → check ≡ firstRefused (reading .check) (answer .check)
+    → _≡_ {A = Outcome} (record { check = check; line = reading .line; day = answer .day; night = answer .night }) (outcomeOf text)
+unfolding outcomeOf
+outcome-is text e a k = rw (k, a, e)
 
-pub study-refused : (st : Study) {r : Answer} (why : Refusal) → r ≡ answerTo (planOf st) → r .check ≡ Refused why → studyReport st ≡ refusalLine why 0
-unfolding studyReport answerReport
-study-refused st why e h = rw (← e, h)
+pub marks-allowed : (text : List ℕ) {reading : Reading}
+    → reading ≡ readText ours text
+    → MarksAllowed (planOf (reading .study)) (ownMarks (planOf (reading .study)))
+    → MarksAllowed (planIn text) (ownMarks (planIn text))
+marks-allowed text e m = rw e at m
 
-pub text-accepted : (text : List ℕ) {r : Reading} → r ≡ readText ours text → r .check ≡ Accepted → reportOf text ≡ studyReport (r .study)
-unfolding reportOf readingReport
-text-accepted text e h = rw (← e, h)
+pub text-answered : (text : List ℕ) {out notice outAfter : List ℕ} {r : Outcome} {count : ℕ}
+    → r ≡ outcomeOf text
+    → MarksAllowed (planIn text) (ownMarks (planIn text))
+    → r .check ≡ Accepted
+    → Put out 0 (answerLines (r .day) (r .night)) outAfter count
+    → length (answerLines (r .day) (r .night)) ≤ reportRoom
+    → Reported text out notice outAfter notice (record { output = count; notice = 0 })
+unfolding reportOf noticeFor reportBy noticeBy
+text-answered text {notice = notice} e m h p l =
+    record { output = rw (← e, h) p; outputRoom = rw (← e, h) l; told = rw (← e, h) (put-nothing notice 0); toldRoom = rw (← e, h) (omega arith); allowed = m }
 
-pub text-refused : (text : List ℕ) {r : Reading} (why : Refusal) → r ≡ readText ours text → r .check ≡ Refused why → reportOf text ≡ refusalLine why (r .line)
-unfolding reportOf readingReport
-text-refused text why e h = rw (← e, h)
+pub text-refused : (text : List ℕ) {out notice outAfter noticeAfter : List ℕ} {r : Outcome} (why : Refusal) {count told : ℕ}
+    → r ≡ outcomeOf text
+    → MarksAllowed (planIn text) (ownMarks (planIn text))
+    → r .check ≡ Refused why
+    → r .line < 2 ^ 64
+    → Put out 0 (refusalLine why (r .line)) outAfter count
+    → Put notice 0 (noticeOf why (r .line)) noticeAfter told
+    → Reported text out notice outAfter noticeAfter (record { output = count; notice = told })
+unfolding reportOf noticeFor reportBy noticeBy
+text-refused text {r = r} why e m h l p q =
+    let short : length (refusalLine why (r .line)) ≤ reportRoom = omega (arith, refusal-length why (r .line) l) in
+    record { output = rw (← e, h) p; outputRoom = rw (← e, h) short; told = rw (← e, h) q; toldRoom = rw (← e, h) (notice-length why (r .line) l); allowed = m }
 
-pub report-written : {text out after : List ℕ} {count : ℕ} → Put out 0 (reportOf text) after count → 128 ≤ length out → Reported text out after count
-report-written {text} {out} p h =
-    record { bytes = p .out ∙ rw (le-leb 128 (length out) h, zero-add); length = p .place ∙ rw (le-leb 128 (length out) h, zero-add) }
-
-pub report-withheld : (text out : List ℕ) → length out < 128 → Reported text out out 0
-report-withheld text out h = record { bytes = rw (lt-leb 128 (length out) h); length = rw (lt-leb 128 (length out) h) }
-
-counts : (t : Bool) (bytes before : List ℕ) {after : List ℕ} {count : ℕ}
-    → after ≡ cond t (bytes ++ drop (length bytes) before) before
-    → count ≡ cond t (length bytes) 0
-    → count ≤ length after
-counts true bytes before e n = omega (arith, simp length-append at (ap length e))
-counts false bytes before e n = omega arith
-
--- what is answered counts bytes of `out`
-pub report-fits : {text before after : List ℕ} {count : ℕ} → Reported text before after count → count ≤ length after
-report-fits {text} {before} r = counts (leb 128 (length before)) (reportOf text) before (r .bytes) (r .length)
+-- with the room that a report or a notice asks for, all of it is at the front
+pub whole-at-front : {before bytes after : List ℕ} {count most : ℕ}
+    → Put before 0 bytes after count
+    → length bytes ≤ most
+    → length before ≡ most
+    → AtFront bytes after count
+whole-at-front p h l = at-front-alone p (omega arith)

@@ -1,3 +1,3 @@
 pub mod Bytes
 pub mod Report
-pub mod Parts
+pub mod Private

@@ -1,51 +1,49 @@
 -- The report of a study text (01, "The text"): the bytes that the program writes, and the whole way from the text to them.
 -- Assumes nothing.
-use mathlib.Core.Path.{_≡_}
-use mathlib.Core.Bool.{cond}
-use mathlib.Core.List.{List, _++_}
-use Prim.Native.Nat.{ℕ}
-use lib.Dec.{leb}
-use lib.ListN.{length, drop}
+use mathlib.Core.List.{List, [], _∷_, _++_, flatten}
+use Prim.Native.Nat.{ℕ, _≤_}
+use lib.ListN.{length}
 use Rattle.steps.specs.declared.Refusal.{Refusal}
 use Rattle.steps.specs.declared.Check.{Check}
 use Rattle.steps.specs.declared.Check.the-variants.{Accepted, Refused}
-use Rattle.steps.specs.Refusal.{numberOf}
-use Rattle.study.specs.declared.Study.{Study}
+use Rattle.steps.specs.Refusal.{firstRefused}
 use Rattle.study.specs.declared.request.PeriodResult.{PeriodResult}
 use Rattle.study.specs.declared.request.Answer.{Answer}
 use Rattle.study.specs.Add.{ours}
 use Rattle.study.specs.Plan.{Plan, planOf}
-use Rattle.study.specs.Levels.{ownMarks}
+use Rattle.study.specs.Levels.{MarksAllowed, ownMarks}
 use Rattle.study.specs.Request.{levelsCheck, answerBy}
 use Rattle.text.specs.Text.{readText}
-use Rattle.report.specs.Bytes.{ascii, decimal, level, verdict}
+use Rattle.writing.specs.Bytes.{ascii, digitsOf}
+use Rattle.writing.specs.Pages.{Put}
+use Rattle.words.specs.Words.{refusedOf, noticeOf}
+use Rattle.report.specs.declared.Outcome.{Outcome}
+use Rattle.report.specs.declared.Written.{Written}
+use Rattle.report.specs.Bytes.{level, verdict}
 
--- ---- the lines
-
-abbrev pub heading : List ℕ
-heading = ascii "period level close met\n"
+-- ---- the lines, part by part
 
 -- a period's level, close count and verdict, one space from each other
-unfoldable pub outcome : PeriodResult → List ℕ
-outcome r = level (r .level) ++ ((ascii " " ++ decimal (r .close)) ++ (ascii " " ++ verdict (r .met)))
+unfoldable pub resultParts : PeriodResult → List (List ℕ)
+resultParts r = level (r .level) ∷ ascii " " ∷ digitsOf (r .close) ∷ ascii " " ∷ verdict (r .met) ∷ []
 
--- a period's line: its name, a space and these
-abbrev pub periodLine : List ℕ → PeriodResult → List ℕ
-periodLine name r = name ++ (ascii " " ++ (outcome r ++ ascii "\n"))
+-- a period's line: its name with a space, and these
+unfoldable pub periodParts : List ℕ → PeriodResult → List (List ℕ)
+periodParts name r = name ∷ (resultParts r ++ (ascii "\n" ∷ []))
 
-unfoldable pub results : PeriodResult → PeriodResult → List ℕ
-results day night = heading ++ (periodLine (ascii "day") day ++ periodLine (ascii "night") night)
+unfoldable pub answerLines : PeriodResult → PeriodResult → List ℕ
+answerLines day night =
+    flatten (ascii "period level close met\n" ∷ (periodParts (ascii "day ") day ++ periodParts (ascii "night ") night))
 
 -- the one line of a refusal, with 01's number and the line of the text
 unfoldable pub refusalLine : Refusal → ℕ → List ℕ
-refusalLine r line = (ascii "refused " ++ decimal (numberOf r)) ++ ((ascii " line " ++ decimal line) ++ ascii "\n")
+refusalLine r line = flatten (refusedOf r line ∷ ascii "\n" ∷ [])
 
--- ---- from an answer, a study, a reading and a text
+-- ---- what a text comes to
 
--- a refused request has no line of the text: 0. No text that is accepted is refused here
-unfoldable pub answerReport : Check → PeriodResult → PeriodResult → List ℕ
-answerReport Accepted day night = results day night
-answerReport (Refused r) day night = refusalLine r 0
+-- the plan of the study that is read from the text: the empty one where it is refused
+abbrev pub planIn : List ℕ → Plan
+planIn text = planOf (readText ours text .study)
 
 -- the working cells that the program lends
 abbrev pub cellsLent : ℕ
@@ -54,23 +52,44 @@ cellsLent = 192
 abbrev pub answerTo : Plan → Answer
 answerTo plan = answerBy (levelsCheck plan cellsLent) plan (ownMarks plan)
 
-unfoldable pub studyReport : Study → List ℕ
-studyReport st = answerReport (answerTo (planOf st) .check) (answerTo (planOf st) .day) (answerTo (planOf st) .night)
+-- the reading's refusal and its line, or both periods' results. No text that is accepted is refused for its levels
+unfoldable pub outcomeOf : List ℕ → Outcome
+outcomeOf text =
+    record {
+      check = firstRefused (readText ours text .check) (answerTo (planIn text) .check);
+      line = readText ours text .line;
+      day = answerTo (planIn text) .day;
+      night = answerTo (planIn text) .night;
+    }
 
-unfoldable pub readingReport : Check → ℕ → Study → List ℕ
-readingReport Accepted line st = studyReport st
-readingReport (Refused r) line st = refusalLine r line
+-- ---- the report and the notice
+
+unfoldable pub reportBy : Check → ℕ → PeriodResult → PeriodResult → List ℕ
+reportBy Accepted line day night = answerLines day night
+reportBy (Refused r) line day night = refusalLine r line
+
+-- a text that is answered has none
+unfoldable pub noticeBy : Check → ℕ → List ℕ
+noticeBy Accepted line = []
+noticeBy (Refused r) line = noticeOf r line
 
 unfoldable pub reportOf : List ℕ → List ℕ
-reportOf text = readingReport (readText ours text .check) (readText ours text .line) (readText ours text .study)
+reportOf text = reportBy (outcomeOf text .check) (outcomeOf text .line) (outcomeOf text .day) (outcomeOf text .night)
 
--- ---- what the writer ensures
+unfoldable pub noticeFor : List ℕ → List ℕ
+noticeFor text = noticeBy (outcomeOf text .check) (outcomeOf text .line)
 
--- every report is shorter
-abbrev pub roomAsked : ℕ
-roomAsked = 128
+-- every report and every notice has room in so many bytes
+abbrev pub reportRoom : ℕ
+reportRoom = 96
 
--- with the room asked: the report in front and the rest as it was; else nothing is written
-pub record Reported (text before after : List ℕ) (count : ℕ) : Type 0 where
-  pub bytes : after ≡ cond (leb roomAsked (length before)) (reportOf text ++ drop (length (reportOf text)) before) before
-  pub length : count ≡ cond (leb roomAsked (length before)) (length (reportOf text)) 0
+abbrev pub noticeRoom : ℕ
+noticeRoom = 450
+
+-- what the report of a text ensures: it and the notice stand at the front of what is lent for them, and 01 allows the marks
+pub record Reported (text out notice outAfter noticeAfter : List ℕ) (r : Written) : Type 0 where
+  pub output : Put out 0 (reportOf text) outAfter (r .output)
+  pub outputRoom : length (reportOf text) ≤ reportRoom
+  pub told : Put notice 0 (noticeFor text) noticeAfter (r .notice)
+  pub toldRoom : length (noticeFor text) ≤ noticeRoom
+  pub allowed : MarksAllowed (planIn text) (ownMarks (planIn text))

@@ -1,53 +1,37 @@
--- `railnoise::main` meets its contract. What is written lies within `out`, by what `report` ensures.
+-- `railnoise::main` meets its contract: what is lent has room, so what is written is the whole report and the whole notice.
 -- Assumes nothing.
-use mathlib.Core.Path.{sym}
-use lib.Seq.{length-take-le}
-use Rattle.report.proofs.Reports.{report-fits}
 use borrow.Author.Needs.{needs}
+use Rattle.report.proofs.Reports.{whole-at-front}
 use Rattle.railnoise.proofs.main.Statement.{statement}
 use Rattle.railnoise.proofs.main.Tie as tie
 
-slice-aggregate-read-full : tie.Need-slice-aggregate-read-full
-slice-aggregate-read-full c = search needs
-
-read-full-requires : tie.Need-read-full-requires
-read-full-requires c κs = search needs
-
-array-share-prefix-text : tie.Need-array-share-prefix-text
-array-share-prefix-text c = search needs
-
-slice-aggregate-report : tie.Need-slice-aggregate-report
-slice-aggregate-report c = search needs
-
-slice-aggregate-report-2 : tie.Need-slice-aggregate-report-2
-slice-aggregate-report-2 c = search needs
-
-report-requires : tie.Need-report-requires
-report-requires c κs = search needs
-
 array-share-prefix-out : tie.Need-array-share-prefix-out
-array-share-prefix-out c = report-fits (c .before .report .ensures)
+array-share-prefix-out c = whole-at-front (c .before .before .report .ensures .output) (c .before .before .report .ensures .outputRoom) (search needs) .inside
 
 slice-aggregate-write-all : tie.Need-slice-aggregate-write-all
-slice-aggregate-write-all c = sym (length-take-le (c .before .before .report .result) (c .before .before .report .last .1 .0) (report-fits (c .before .before .report .ensures)))
+slice-aggregate-write-all c = whole-at-front (c .before .before .before .report .ensures .output) (c .before .before .before .report .ensures .outputRoom) (search needs) .long
 
-write-all-requires : tie.Need-write-all-requires
-write-all-requires c κs = search needs
+array-share-prefix-notice : tie.Need-array-share-prefix-notice
+array-share-prefix-notice c = whole-at-front (c .before .before .before .before .report .ensures .told) (c .before .before .before .before .report .ensures .toldRoom) (search needs) .inside
 
-returns : tie.Need-returns
-returns c = search needs
+slice-aggregate-write-all-2 : tie.Need-slice-aggregate-write-all-2
+slice-aggregate-write-all-2 c = whole-at-front (c .before .before .before .before .before .report .ensures .told) (c .before .before .before .before .before .report .ensures .toldRoom) (search needs) .long
 
 pub main-spec : {M : Type 1} → statement M
 main-spec =
     tie.close
     (tie.spec
-    slice-aggregate-read-full
-    read-full-requires
-    array-share-prefix-text
-    slice-aggregate-report
-    slice-aggregate-report-2
-    report-requires
+    (λ c. search needs)
+    (λ c κs. search needs)
+    (λ c. search needs)
+    (λ c. search needs)
+    (λ c. search needs)
+    (λ c. search needs)
+    (λ c κs. search needs)
     array-share-prefix-out
     slice-aggregate-write-all
-    write-all-requires
-    returns)
+    (λ c κs. search needs)
+    array-share-prefix-notice
+    slice-aggregate-write-all-2
+    (λ c κs. search needs)
+    (λ c. search needs))
