@@ -21,7 +21,7 @@ use Rattle.steps.specs.declared.Check.the-variants.{Accepted}
 use Rattle.study.specs.Add.{ours}
 use Rattle.text.specs.Numbers.{front, numbersOf, numberAt}
 use Rattle.text.specs.Contents.{Read, refused, counts, isCount, entryCount, countsIn, sumOf, between, inAll, contentsIn, contentsOf}
-use Rattle.text.specs.Parts.{numbersFrom, naturalOf, countOf, countsFrom, ContentsRead}
+use Rattle.text.specs.Private.{numbersFrom, naturalOf, countOf, countsFrom, ContentsRead}
 use Rattle.text.specs.declared.numbers.Number.the-variants as N
 use Rattle.text.specs.declared.contents.Natural.{Natural}
 use Rattle.text.specs.declared.contents.Natural.the-variants as L

@@ -18,7 +18,7 @@ use Rattle.study.specs.Add.{ours}
 use Rattle.text.specs.Bytes.{until, split}
 use Rattle.text.specs.Lines.{segmentOf, trainOf}
 use Rattle.text.specs.Text.{ended, unended, lastLine, linesIn, linesOf}
-use Rattle.text.specs.Parts.{Found, firstAnswer, segmentLineAnswer, trainLineAnswer, SegmentAt, TrainAt, faultOf}
+use Rattle.text.specs.Private.{Found, firstAnswer, segmentLineAnswer, trainLineAnswer, SegmentAt, TrainAt, faultOf}
 use Rattle.text.specs.declared.lines.SegmentLine.the-variants as S
 use Rattle.text.specs.declared.lines.TrainLine.the-variants as T
 use Rattle.text.specs.declared.SegmentStep.{SegmentStep}

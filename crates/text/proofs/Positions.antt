@@ -17,8 +17,8 @@ use mir.Val.{toZ, ofZ}
 use mir.Facts.{toZ-ofZ}
 use borrow.Author.Tests.{le-leb, lt-leb, lt-ltb, le-ltb, ltb-true, ltb-false}
 use Rattle.text.specs.Bytes.{until, split}
-use Rattle.text.specs.Numbers.{valueOf, front, every, numbersOf, numberAs, numberAt}
-use Rattle.text.specs.Parts.{numbersFrom}
+use Rattle.text.specs.Numbers.{valueOf, front, allOf, numbersOf, numberAs, numberAt}
+use Rattle.text.specs.Private.{numbersFrom}
 use Rattle.text.specs.declared.numbers.Number.the-variants as N
 use Rattle.text.proofs.Bytes.{split-first}
 use Rattle.text.proofs.Values.{number-past}
@@ -45,23 +45,23 @@ abbrev firstThen : Option ℤ → Option (List ℤ) → Option (List ℤ)
 firstThen none o = none
 firstThen (some v) o = front v o
 
-every-first : (o : Option ℤ) (os : List (Option ℤ)) → every (o ∷ os) ≡ firstThen o (every os)
-unfolding every
-every-first none os = refl
-every-first (some v) os = refl
+all-first : (o : Option ℤ) (os : List (Option ℤ)) → allOf (o ∷ os) ≡ firstThen o (allOf os)
+unfolding allOf
+all-first none os = refl
+all-first (some v) os = refl
 
 word-then-rest : (line : List ℕ) (at : ℕ) → at ≤ length line
     → numbersFrom line at ≡ firstThen (valueOf (until 32 (drop at line))) (numbersFrom line (at + length (until 32 (drop at line)) + 1))
-unfolding numbersFrom numbersOf every
+unfolding numbersFrom numbersOf allOf
 word-then-rest line at h =
-    rw (le-leb at (length line) h, split-first 32 (drop at line), every-first)
+    rw (le-leb at (length line) h, split-first 32 (drop at line), all-first)
     (ap (firstThen (valueOf (until 32 (drop at line)))) (⊎-elim more last (lt-or-ge k (length (drop at line)))))
   where
     k : ℕ
     k = length (until 32 (drop at line))
 
     rest : Option (List ℤ)
-    rest = every (map valueOf (cond (ltb k (length (drop at line))) (split 32 (drop (suc k) (drop at line))) []))
+    rest = allOf (map valueOf (cond (ltb k (length (drop at line))) (split 32 (drop (suc k) (drop at line))) []))
 
     more : k < length (drop at line) → rest ≡ numbersFrom line (at + k + 1)
     more l =

@@ -21,7 +21,7 @@ use Rattle.text.specs.Lines.{segmentOf, trainOf}
 use Rattle.text.specs.Contents.{Read, contentsOf}
 use Rattle.text.specs.Text as K
 use Rattle.text.specs.Text.{Line, ended, unended, linesOf, Kind, trains, kindsOf, segmentAdds, trainAdds, addLine, acceptedWith, refusedAt, readLines, readBody, readFrom, readText}
-use Rattle.text.specs.Parts.{Found, segmentLineAnswer, trainLineAnswer, firstAnswer, ContentsRead}
+use Rattle.text.specs.Private.{Found, segmentLineAnswer, trainLineAnswer, firstAnswer, ContentsRead}
 use Rattle.text.specs.declared.Reading.{Reading}
 use Rattle.text.specs.declared.contents.Contents as contents
 use Rattle.text.specs.declared.lines.SegmentLine.{SegmentLine}

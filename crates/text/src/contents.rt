@@ -4,7 +4,7 @@ ghost use Prim.Native.Nat.{_≤_};
 ghost use lib.ListN.{length};
 ghost use Rattle.study.specs.Add.{ours};
 ghost use Rattle.text.specs.Contents.{refused, contentsOf};
-ghost use Rattle.text.specs.Parts.{numbersFrom, naturalOf, countOf, ContentsRead, countsFrom};
+ghost use Rattle.text.specs.Private.{numbersFrom, naturalOf, countOf, ContentsRead, countsFrom};
 use crate::numbers::Number;
 use crate::numbers::number_at;
 use steps::Check;

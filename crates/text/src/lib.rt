@@ -10,7 +10,7 @@ ghost use Rattle.study.specs.Add.{ours};
 ghost use Rattle.study.specs.Plan.{emptyStudy};
 ghost use Rattle.text.specs.Bytes.{until};
 ghost use Rattle.text.specs.Text.{acceptedWith, refusedAt, readLines, kindsOf, linesOf, readText};
-ghost use Rattle.text.specs.Parts.{SegmentAt, TrainAt, faultOf};
+ghost use Rattle.text.specs.Private.{SegmentAt, TrainAt, faultOf};
 use contents::contents_of;
 use lines::SegmentLine;
 use lines::TrainLine;

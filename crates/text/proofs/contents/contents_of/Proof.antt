@@ -5,7 +5,7 @@ use mathlib.Core.List.{List}
 use Prim.Native.Nat.{ℕ}
 use lib.IntN.{ℤ}
 use Rattle.text.specs.Numbers.{numberAt}
-use Rattle.text.specs.Parts.{numbersFrom, naturalOf, countOf}
+use Rattle.text.specs.Private.{numbersFrom, naturalOf, countOf}
 use Rattle.text.specs.declared.numbers.Number.the-variants as N
 use Rattle.text.specs.declared.contents.Count.the-variants as C
 use Rattle.text.specs.declared.contents.Natural.the-variants as L

@@ -5,7 +5,7 @@ use Prim.Native.Nat.{_+_, _-_, _≤_}
 use native.Mathlib.Omega.{arith}
 use lib.ListN.{length}
 use Rattle.text.specs.Numbers.{numberAt}
-use Rattle.text.specs.Parts.{numbersFrom, countOf}
+use Rattle.text.specs.Private.{numbersFrom, countOf}
 use Rattle.text.specs.declared.numbers.Number.the-variants as N
 use Rattle.text.proofs.Positions.{next-number}
 use Rattle.text.proofs.Entries.{more, more-none, count-next, count-wrong, count-end}

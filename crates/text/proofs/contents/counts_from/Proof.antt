@@ -4,7 +4,7 @@ use mathlib.Core.Path.{_≡_, refl, sym, _∙_}
 use Prim.Native.Nat.{_-_, _≤_}
 use native.Mathlib.Omega.{arith}
 use Rattle.text.specs.Numbers.{numberAt}
-use Rattle.text.specs.Parts.{naturalOf}
+use Rattle.text.specs.Private.{naturalOf}
 use Rattle.text.specs.declared.numbers.Number.the-variants as N
 use Rattle.text.specs.declared.contents.Natural.the-variants as L
 use Rattle.text.proofs.Entries.{same-contents, Entries, entries-start, entries-wrong, entries-next, entries-over, entries-below, entries-zero, entries-many, entries-good, natural-is}

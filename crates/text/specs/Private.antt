@@ -1,4 +1,4 @@
--- What the parts of the reading ensure: the enums' cases, and what is read from a position on. Only private contracts cite it.
+-- What private contracts alone cite: the enums' cases, and what is read from a position on.
 -- Assumes nothing.
 use mathlib.Core.Path.{_≡_}
 use Prim.Native.Nat.{ℕ, _≤_, _<_}
