@@ -11,6 +11,7 @@ ghost use Rattle.study.specs.Plan.{emptyStudy};
 ghost use Rattle.text.specs.Bytes.{until};
 ghost use Rattle.text.specs.Text.{acceptedWith, refusedAt, readLines, kindsOf, linesOf, readText};
 ghost use Rattle.text.specs.Private.{SegmentAt, TrainAt, faultOf};
+use contents::Contents;
 use contents::contents_of;
 use lines::SegmentLine;
 use lines::TrainLine;
@@ -204,12 +205,9 @@ pub fn read_text(text: &[u8]) -> Reading
     if end == text.len() {
         return refused(Refusal::Form, 1);
     }
-    let contents = contents_of(line);
-    let check = contents.check;
-    if let Check::Refused(refusal) = check {
-        return refused(refusal, 1);
+    let mut counts = [0usize; MOST_SEGMENTS];
+    match contents_of(line, MOST_SEGMENTS, MOST_ENTRIES, &mut counts) {
+        Contents::Refused(refusal) => refused(refusal, 1),
+        Contents::Counts(count) => read_lines(text, end + 1, &counts[..count]),
     }
-    let count = contents.count;
-    let list = contents.list;
-    read_lines(text, end + 1, &list[..count])
 }
