@@ -26,7 +26,7 @@ use Rattle.text.specs.declared.contents.Natural.the-variants as L
 use Rattle.text.specs.declared.contents.Sum.{Sum}
 use Rattle.text.specs.declared.contents.Sum.the-variants as U
 use Rattle.text.specs.declared.contents.Contents.the-variants as C
-use Rattle.text.proofs.Apart.{apart}
+use Rattle.text.proofs.Cases.{apart}
 use Rattle.text.proofs.Positions.{next-number, wrong-number, past-end, whole-line, back, through}
 use Rattle.text.proofs.Fields.{onward, onward-front, onward-nil}
 

@@ -1,4 +1,4 @@
-pub mod Apart
+pub mod Cases
 pub mod Bytes
 pub mod Digits
 pub mod Values

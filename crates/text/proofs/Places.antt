@@ -26,7 +26,7 @@ use Rattle.text.specs.declared.SegmentStep.the-variants as SS
 use Rattle.text.specs.declared.TrainStep.{TrainStep}
 use Rattle.text.specs.declared.TrainStep.the-variants as TS
 use Rattle.text.proofs.Bytes.{split-first, until-within}
-use Rattle.text.proofs.Positions.{lt-or-ge}
+use Rattle.text.proofs.Cases.{lt-or-ge}
 
 last-torn : (u : List ℕ) → 0 < length u → lastLine u ≡ unended ∷ []
 last-torn [] h = absurd (omega arith)

@@ -1,10 +1,10 @@
 -- The next number of a line, by position: what stands there, and what it says of all the line's numbers.
 -- Assumes nothing.
 use mathlib.Core.Path.{_≡_, refl, sym, ap, _∙_}
-use mathlib.Core.Logic.{⊎-elim, _⊎_, inl, inr}
+use mathlib.Core.Logic.{⊎-elim}
 use Prim.Native.Nat.{ℕ, suc, _+_, _^_, _≤_, _<_}
 use mathlib.Core.List.{List, [], _∷_, map}
-use mathlib.Core.Bool.{Bool, true, false, cond}
+use mathlib.Core.Bool.{cond}
 use mathlib.Core.Option.{Option, none, some}
 use native.Mathlib.Omega.{arith}
 use lib.ListN.{length, drop, length-drop}
@@ -15,20 +15,14 @@ use lib.IntN.{ℤ}
 use mir.Syntax.{w32}
 use mir.Val.{toZ, ofZ}
 use mir.Facts.{toZ-ofZ}
-use borrow.Author.Tests.{le-leb, lt-leb, lt-ltb, le-ltb, ltb-true, ltb-false}
+use borrow.Author.Tests.{le-leb, lt-leb, lt-ltb, le-ltb}
 use Rattle.text.specs.Bytes.{until, split}
 use Rattle.text.specs.Numbers.{valueOf, front, allOf, numbersOf, numberAs, numberAt}
 use Rattle.text.specs.Private.{numbersFrom}
 use Rattle.text.specs.declared.numbers.Number.the-variants as N
+use Rattle.text.proofs.Cases.{lt-or-ge, apart}
 use Rattle.text.proofs.Bytes.{split-first}
 use Rattle.text.proofs.Values.{number-past}
-
-pub lt-or-ge : (a b : ℕ) → (a < b) ⊎ (b ≤ a)
-lt-or-ge a b = go (ltb a b) refl
-  where
-    go : (t : Bool) → ltb a b ≡ t → (a < b) ⊎ (b ≤ a)
-    go true e = inl (ltb-true a b e)
-    go false e = inr (ltb-false a b e)
 
 -- ---- what stands at a position
 
@@ -101,8 +95,8 @@ module _ (line : List ℕ) (at : ℕ) where
   next-number {v} {n} e = go (stands line at)
     where
       go : Stands line at → (at < n) × (numbersFrom line at ≡ front v (numbersFrom line n))
-      go (nothing h q f) = let z : _≡_ {A = ℕ} 0 1 = cc in absurd (omega arith)
-      go (wrong h q f) = let z : _≡_ {A = ℕ} 0 1 = cc in absurd (omega arith)
+      go (nothing h q f) = apart (cc)
+      go (wrong h q f) = apart (cc)
       go (number u m h q f) = let z : m ≡ n = cc in (omega arith, cc)
 
   pub wrong-number : at ≤ length line → numberAt line at ≡ N.Malformed → numbersFrom line at ≡ none

@@ -29,11 +29,12 @@ use Rattle.text.specs.declared.lines.SegmentLine.{SegmentLine}
 use Rattle.text.specs.declared.lines.SegmentLine.the-variants as S
 use Rattle.text.specs.declared.lines.TrainLine.{TrainLine}
 use Rattle.text.specs.declared.lines.TrainLine.the-variants as T
+use Rattle.text.proofs.Cases.{apart}
 use Rattle.text.proofs.Bytes.{until-within}
 use Rattle.text.proofs.Places.{View, at-end, at-torn, at-line, view}
 
 pub never : {A : Type 0} {r : Refusal} → Refused r ≡ Accepted → A
-never e = let z : _≡_ {A = ℕ} 0 1 = cc in absurd (omega arith)
+never e = apart (cc)
 
 -- ---- a kind of line: what is read of it, what that answers, and the study that it makes where it is accepted
 
