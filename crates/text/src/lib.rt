@@ -54,7 +54,7 @@ enum TrainStep {
     Refused(Refusal),
 }
 
-// The position of the first `sep` of `s` from `at` on, or the length where there is none. Four bytes a turn take half the instructions of one.
+// The position of the first `sep` of `s` from `at` on, or the length where there is none. Four bytes a turn: the loop's own test is paid once for four.
 fn find(s: &[u8], at: usize, sep: u8) -> usize
     requires { ⌜ at ≤ length (now s) ⌝ }
     ensures { λ r. ⌜ r ≡ at + length (until sep (drop at (now (s .entry)))) ⌝ }
