@@ -18,7 +18,7 @@ use borrow.Author.Tests.{eq-eqb, ne-eqb, le-leb, lt-leb, ltb-true}
 use Rattle.steps.specs.declared.Refusal.the-variants as R
 use Rattle.study.specs.Add.{Limits}
 use Rattle.text.specs.Numbers.{front, numbersOf, numberAt}
-use Rattle.text.specs.Contents.{Read, refused, counts, entryCount, countsIn, sumOf, between, inAll, contentsIn, contentsOf}
+use Rattle.text.specs.Contents.{refused, counts, entryCount, countsIn, sumOf, between, inAll, contentsIn, contentsOf}
 use Rattle.text.specs.Private.{numbersFrom, naturalOf, countsRead, Held, Summed, Counted, ContentsRead}
 use Rattle.text.specs.declared.numbers.Number.the-variants as N
 use Rattle.text.specs.declared.contents.Natural.{Natural}

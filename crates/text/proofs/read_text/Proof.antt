@@ -25,6 +25,9 @@ first-line d = d .before .before .before
 abbrev contents : tie.After-known-told2 → tie.After-contents-of
 contents n = n .before .before .before .before
 
+abbrev refusing : tie.After-known-told → tie.After-contents-of
+refusing n = n .before .before .before .before
+
 returns-3 : tie.Need-returns-3
 returns-3 c =
     let k = c .before .before in
@@ -41,7 +44,7 @@ read-lines-requires c κs =
 
 returns-4 : tie.Need-returns-4
 returns-4 c =
-    let d = c .before .before .before .before .before in
+    let d = refusing (c .before) in
     let k = first-line d in
     c .refused4 .ensures
     ∙ body-refused ours _ _ (d .contents-of .ensures) _ (c .before .before .refusal .given .1)

@@ -7,7 +7,7 @@ use native.Mathlib.Omega.{arith}
 use lib.ListN.{length}
 use lib.IntN.{ℤ}
 use Rattle.text.specs.Numbers.{numberAt}
-use Rattle.text.specs.Private.{limits, naturalOf}
+use Rattle.text.specs.Private.{limits}
 use Rattle.text.specs.declared.numbers.Number.the-variants as N
 use Rattle.text.proofs.Positions.{next-number}
 use Rattle.text.proofs.Entries.{Reached, contents-wrong, contents-below, reached-first, reached-next, reached-wrong, ended-other, ended-exceeded, ended-none, ended-good, natural-is}
@@ -35,6 +35,9 @@ first c = c .before .first .given .0 .0
 read : (c : tie.After-known-told Inv-loop μ-loop) → numberAt (line c) 0 ≡ N.Value (first c) (c .before .first .given .0 .1 .0)
 read c = sym (c .before .before .before .number-at .ensures) ∙ c .before .first .given .1
 
+abbrev announced : tie.After-known-told2 Inv-loop μ-loop → tie.After-known-told Inv-loop μ-loop
+announced c = c .before .before .before .before
+
 abbrev head : tie.After-known-told3 Inv-loop μ-loop → tie.At-loop Inv-loop μ-loop
 head c = c .before .before .before .before .before
 
@@ -60,7 +63,7 @@ returns-3 c =
     reached-wrong (n .before .before .loop .inv .1) (n .before .loop-test .taken) (sym (n .number-at2 .ensures) ∙ c .enum-told3 .given .1)
 
 next-read : (c : tie.After-known-told3 Inv-loop μ-loop)
-    → numberAt (line (head c .before .before .before .before .before)) (head c .loop .at) ≡ N.Value (c .before .v .given .0 .0) (c .before .v .given .0 .1 .0)
+    → numberAt (line (announced (head c .before))) (head c .loop .at) ≡ N.Value (c .before .v .given .0 .0) (c .before .v .given .0 .1 .0)
 next-read c = sym (c .before .before .before .number-at2 .ensures) ∙ c .before .v .given .1
 
 with-count-requires : tie.Need-with-count-requires Inv-loop μ-loop
