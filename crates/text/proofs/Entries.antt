@@ -19,10 +19,8 @@ use Rattle.steps.specs.declared.Refusal.the-variants as R
 use Rattle.study.specs.Add.{Limits}
 use Rattle.text.specs.Numbers.{front, numbersOf, numberAt}
 use Rattle.text.specs.Contents.{refused, counts, entryCount, countsIn, sumOf, between, inAll, contentsIn, contentsOf}
-use Rattle.text.specs.Private.{numbersFrom, naturalOf, countsRead, Held, Summed, Counted, ContentsRead}
+use Rattle.text.specs.Private.{numbersFrom, countsRead, Held, Summed, Counted, ContentsRead}
 use Rattle.text.specs.declared.numbers.Number.the-variants as N
-use Rattle.text.specs.declared.contents.Natural.{Natural}
-use Rattle.text.specs.declared.contents.Natural.the-variants as L
 use Rattle.text.specs.declared.contents.Sum.{Sum}
 use Rattle.text.specs.declared.contents.Sum.the-variants as U
 use Rattle.text.specs.declared.contents.Contents.the-variants as C
@@ -30,27 +28,23 @@ use Rattle.text.proofs.Cases.{apart}
 use Rattle.text.proofs.Positions.{next-number, wrong-number, past-end, whole-line, back, through}
 use Rattle.text.proofs.Fields.{onward, onward-front, onward-nil}
 
--- ---- an i32 as a natural number
+-- ---- a number that is not below zero
 
-pub natural-below : (v : ℤ) → ltZ v (pos 0) ≡ true → L.Negative ≡ naturalOf v
-natural-below (pos n) e = absurd (omega (arith, ltb-true n 0 e))
-natural-below (negsuc n) e = refl
+value-of : (v : ℤ) → ltZ v (pos 0) ≡ false → v ≡ pos (natAbs v)
+value-of (pos n) e = refl
+value-of (negsuc n) e = absurd (true≢false e)
 
-pub natural-value : (v : ℤ) → ltZ v (pos 0) ≡ false → L.Value (natAbs v) ≡ naturalOf v
-natural-value (pos n) e = refl
-natural-value (negsuc n) e = absurd (true≢false e)
+-- by its bits
+module _ {v : ℤ} (f : SFits w32 v) (e : ltZ (back v) (pos 0) ≡ false) where
+  pub count-is : v ≡ pos (natAbs (back v))
+  count-is = through {v = v} (f .sfits) ∙ value-of (back v) e
 
--- what was said of its bits
-pub natural-is : (v : ℤ) → mag v < 2 ^ 31 → {r x : Natural} → r ≡ naturalOf (back v) → r ≡ x → naturalOf v ≡ x
-natural-is v h e q = ap naturalOf (through {v = v} h) ∙ sym e ∙ q
-
-pub natural-fits : (v : ℤ) → SFits w32 v → ltZ v (pos 0) ≡ false → T (nonNeg v) × Fits w64 (natAbs v)
-natural-fits (pos n) f e = (tt, fits-natAbs tt f)
-natural-fits (negsuc n) f e = absurd (true≢false e)
-
-value-of : (v : ℤ) {c : ℕ} → naturalOf v ≡ L.Value c → v ≡ pos c
-value-of (pos m) e = cc
-value-of (negsuc m) e = apart (cc)
+  pub count-fits : T (nonNeg (back v)) × Fits w64 (natAbs (back v))
+  count-fits = go (back v) (rw (← through {v = v} (f .sfits)) f) e
+    where
+      go : (u : ℤ) → SFits w32 u → ltZ u (pos 0) ≡ false → T (nonNeg u) × Fits w64 (natAbs u)
+      go (pos n) g q = (tt, fits-natAbs tt g)
+      go (negsuc n) g q = absurd (true≢false q)
 
 -- ---- the entry counts, one after another
 
@@ -115,19 +109,19 @@ module _ {l : Limits} {n : ℕ} {v : ℤ} (before : List ℕ) {from : Sum} where
             let k = length-append vs (v ∷ us) in
             rw (le-leb 1 (length (vs ++ (v ∷ us))) (omega arith), lt-leb (length (vs ++ (v ∷ us))) (l .segments) (omega arith))
 
-    pub exceeded-below : naturalOf v ≡ L.Negative → Counted l n v before from before U.Exceeded
+    pub exceeded-below : ltZ v (pos 0) ≡ true → Counted l n v before from before U.Exceeded
     unfolding countsIn
     exceeded-below p = exceeded (λ vs e t us. unless-counted l (vs ++ (v ∷ us)) (rw (counts-onward (l .entries) vs (v ∷ us) _ (t .are), none-below v us p)))
       where
-        none-below : (v : ℤ) (us : List ℤ) → naturalOf v ≡ L.Negative → countsIn (l .entries) (v ∷ us) ≡ none
-        none-below (pos m) us p = apart (cc)
+        none-below : (v : ℤ) (us : List ℤ) → ltZ v (pos 0) ≡ true → countsIn (l .entries) (v ∷ us) ≡ none
+        none-below (pos m) us p = absurd (omega (arith, ltb-true m 0 p))
         none-below (negsuc m) us p = refl
 
-    module _ {c : ℕ} (p : naturalOf v ≡ L.Value c) where
+    module _ {c : ℕ} (p : v ≡ pos c) where
       pub exceeded-sum : l .entries < sum + c → Counted l n v before from before U.Exceeded
       unfolding countsIn
       exceeded-sum h = exceeded (λ vs e t us. unless-counted l (vs ++ (v ∷ us))
-          (rw (counts-onward (l .entries) vs (v ∷ us) _ (t .are), value-of v p) (over-sum l (take (length vs) before) c (countsIn (l .entries) us) (omega (arith, t .sum-is)))))
+          (rw (counts-onward (l .entries) vs (v ∷ us) _ (t .are), p) (over-sum l (take (length vs) before) c (countsIn (l .entries) us) (omega (arith, t .sum-is)))))
 
       pub held-more : n < l .segments → l .segments ≤ length before → sum + c ≤ l .entries → Counted l n v before from (set before n c) (U.Within (sum + c))
       unfolding countsIn sumOf front
@@ -139,7 +133,7 @@ module _ {l : Limits} {n : ℕ} {v : ℤ} (before : List ℕ) {from : Sum} where
               let s : take (length (vs ++ (v ∷ []))) (set before n c) ≡ take (length vs) before ++ (c ∷ []) = rw (k, e) (take-suc-set before n c (omega arith)) in
               record {
                 few = omega arith;
-                are = rw (s, counts-onward (l .entries) vs (v ∷ []) _ (t .are), value-of v p, le-leb c (l .entries) (omega arith));
+                are = rw (s, counts-onward (l .entries) vs (v ∷ []) _ (t .are), p, le-leb c (l .entries) (omega arith));
                 sum-is = rw s (omega (arith, t .sum-is, sum-append (take (length vs) before) (c ∷ [])));
                 within = w;
               }
@@ -151,17 +145,17 @@ module _ (l : Limits) (line : List ℕ) where
   unfolding contentsOf
   contents-wrong e = rw (← whole-line line, wrong-number line 0 (omega arith) e)
 
-  module _ {v : ℤ} {next : ℕ} (e : numberAt line 0 ≡ N.Value v next) where
-    first-is : numbersOf line ≡ front v (numbersFrom line next)
-    first-is = sym (whole-line line) ∙ next-number line 0 e .1
+  module _ {v : ℤ} {next : ℕ} (e : numberAt line 0 ≡ N.Value v next) (f : mag v < 2 ^ 31) where
+    first-is : numbersOf line ≡ front (back v) (numbersFrom line next)
+    first-is = sym (whole-line line) ∙ next-number line 0 e .1 ∙ ap (λ (u : ℤ). front u (numbersFrom line next)) (through {v = v} f)
 
-    pub contents-below : naturalOf v ≡ L.Negative → contentsOf l line ≡ refused R.Form
+    pub contents-below : ltZ (back v) (pos 0) ≡ true → contentsOf l line ≡ refused R.Form
     unfolding contentsOf front
-    contents-below p = rw first-is (go v (numbersFrom line next) p)
+    contents-below p = rw first-is (go (back v) (numbersFrom line next) p)
       where
-        go : (v : ℤ) (o : Option (List ℤ)) → naturalOf v ≡ L.Negative → contentsIn l (front v o) ≡ refused R.Form
-        go v none q = refl
-        go (pos m) (some vs) q = apart (cc)
+        go : (u : ℤ) (o : Option (List ℤ)) → ltZ u (pos 0) ≡ true → contentsIn l (front u o) ≡ refused R.Form
+        go u none q = refl
+        go (pos m) (some vs) q = absurd (omega (arith, ltb-true m 0 q))
         go (negsuc m) (some vs) q = refl
 
 -- the line announces m counts, and the first n are read, up to a position
@@ -173,13 +167,14 @@ pub record Reached (l : Limits) (line : List ℕ) (m : ℕ) (list : List ℕ) (s
   pub few : n ≤ at
   pub room : l .segments ≤ length list
 
-pub reached-first : (l : Limits) (line : List ℕ) {v : ℤ} {m at : ℕ} (list : List ℕ) → l .segments ≤ length list → numberAt line 0 ≡ N.Value v at → naturalOf v ≡ L.Value m
-    → Reached l line m list (U.Within 0) at 0
+pub reached-first : (l : Limits) (line : List ℕ) {v : ℤ} {at : ℕ} (list : List ℕ) → l .segments ≤ length list → numberAt line 0 ≡ N.Value v at → mag v < 2 ^ 31 → ltZ (back v) (pos 0) ≡ false
+    → Reached l line (natAbs (back v)) list (U.Within 0) at 0
 unfolding countsIn sumOf
-reached-first l line {v} {m} {at} list room e p =
+reached-first l line {v} {at} list room e f p =
+    let o = numbersFrom line at in
     record {
       vs = [];
-      so = first-is l line e ∙ rw (value-of v p) (ap (front (pos m)) (onward-nil (numbersFrom line at)) ∙ front-onward (pos m) [] (numbersFrom line at));
+      so = first-is l line e f ∙ ap (λ (u : ℤ). front u o) (value-of (back v) p) ∙ ap (front (pos (natAbs (back v)))) (onward-nil o) ∙ front-onward (pos (natAbs (back v))) [] o;
       count = refl;
       summed = record { few = omega arith; are = refl; sum-is = refl; within = omega arith };
       few = omega arith;

@@ -7,7 +7,7 @@ use mathlib.Core.Bool.{cond}
 use mathlib.Core.Option.{Option, none, some}
 use lib.ListN.{length, take, drop}
 use lib.Dec.{leb}
-use lib.IntN.{ℤ, pos, negsuc}
+use lib.IntN.{ℤ}
 use Rattle.steps.specs.declared.Refusal.{Refusal}
 use Rattle.steps.specs.declared.Refusal.the-variants.{Form, Contents}
 use Rattle.steps.specs.declared.Check.{Check}
@@ -17,8 +17,6 @@ use Rattle.text.specs.Numbers.{numbersOf}
 use Rattle.text.specs.Contents.{Read, refused, counts, countsIn, sumOf, between, inAll}
 use Rattle.text.specs.Lines.{segmentOf, trainOf}
 use Rattle.text.specs.Text.{Line, ended, unended, linesOf}
-use Rattle.text.specs.declared.contents.Natural.{Natural}
-use Rattle.text.specs.declared.contents.Natural.the-variants as L
 use Rattle.text.specs.declared.contents.Sum.{Sum}
 use Rattle.text.specs.declared.contents.Sum.the-variants as U
 use Rattle.text.specs.declared.contents.Contents as contents
@@ -39,10 +37,6 @@ unfoldable pub numbersFrom : List ℕ → ℕ → Option (List ℤ)
 numbersFrom line at = cond (leb at (length line)) (numbersOf (drop at line)) (some [])
 
 -- ---- the contents
-
-abbrev pub naturalOf : ℤ → Natural
-naturalOf (pos n) = L.Value n
-naturalOf (negsuc n) = L.Negative
 
 -- the limits that a call hands over
 abbrev pub limits : ℕ → ℕ → Limits

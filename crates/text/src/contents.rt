@@ -1,17 +1,11 @@
 // The contents, a text's first line: the segment count, then each segment's entry count.
-ghost use mathlib.Core.Path.{_≡_};
 ghost use Prim.Native.Nat.{_≤_};
 ghost use lib.ListN.{length};
 ghost use Rattle.text.specs.Contents.{contentsOf};
-ghost use Rattle.text.specs.Private.{limits, naturalOf, Counted, ContentsRead};
+ghost use Rattle.text.specs.Private.{limits, Counted, ContentsRead};
 use crate::numbers::Number;
 use crate::numbers::number_at;
 use steps::Refusal;
-
-enum Natural {
-    Value(usize),
-    Negative,
-}
 
 // The sum of the entry counts so far, or that they are out of range.
 enum Sum {
@@ -23,15 +17,6 @@ enum Sum {
 pub(crate) enum Contents {
     Counts(usize),
     Refused(Refusal),
-}
-
-fn to_natural(v: i32) -> Natural
-    ensures { λ r. ⌜ r ≡ naturalOf v ⌝ }
-{
-    if v < 0 {
-        return Natural::Negative;
-    }
-    Natural::Value(v as usize)
 }
 
 // One more entry count after n of them. It is kept where it and the sum are in range.
@@ -49,9 +34,10 @@ fn with_count(
     let Sum::Within(before) = sum else {
         return Sum::Exceeded;
     };
-    let Natural::Value(count) = to_natural(v) else {
+    if v < 0 {
         return Sum::Exceeded;
-    };
+    }
+    let count = v as usize;
     if segments <= n {
         return Sum::Exceeded;
     }
@@ -65,7 +51,7 @@ fn with_count(
     Sum::Within(before + count)
 }
 
-// The contents line. Every number's form comes before any range, so a count out of range is told at the line's end.
+// The contents line, of at most so many segments and entries. Every number's form comes before any range, so a count out of range is told at the line's end.
 pub(crate) fn contents_of(
     line: &[u8],
     segments: usize,
@@ -78,9 +64,10 @@ pub(crate) fn contents_of(
     let Number::Value(first, after) = number_at(line, 0) else {
         return Contents::Refused(Refusal::Form);
     };
-    let Natural::Value(announced) = to_natural(first) else {
+    if first < 0 {
         return Contents::Refused(Refusal::Form);
-    };
+    }
+    let announced = first as usize;
     let mut sum = Sum::Within(0);
     let mut at = after;
     let mut n = 0;

@@ -10,7 +10,7 @@ use Rattle.text.specs.Numbers.{numberAt}
 use Rattle.text.specs.Private.{limits}
 use Rattle.text.specs.declared.numbers.Number.the-variants as N
 use Rattle.text.proofs.Positions.{next-number}
-use Rattle.text.proofs.Entries.{Reached, contents-wrong, contents-below, reached-first, reached-next, reached-wrong, ended-other, ended-exceeded, ended-none, ended-good, natural-is}
+use Rattle.text.proofs.Entries.{Reached, contents-wrong, contents-below, reached-first, reached-next, reached-wrong, ended-other, ended-exceeded, ended-none, ended-good, count-fits}
 use borrow.Author.Needs.{needs}
 use Rattle.text.proofs.contents.contents_of.Statement.{statement}
 use Rattle.text.proofs.contents.contents_of.Tie as tie
@@ -35,42 +35,34 @@ first c = c .before .first .given .0 .0
 read : (c : tie.After-known-told Inv-loop μ-loop) → numberAt (line c) 0 ≡ N.Value (first c) (c .before .first .given .0 .1 .0)
 read c = sym (c .before .before .before .number-at .ensures) ∙ c .before .first .given .1
 
-abbrev announced : tie.After-known-told2 Inv-loop μ-loop → tie.After-known-told Inv-loop μ-loop
-announced c = c .before .before .before .before
-
-abbrev head : tie.After-known-told3 Inv-loop μ-loop → tie.At-loop Inv-loop μ-loop
+abbrev head : tie.After-known-told2 Inv-loop μ-loop → tie.At-loop Inv-loop μ-loop
 head c = c .before .before .before .before .before
 
 returns : tie.Need-returns Inv-loop μ-loop
 returns c = contents-wrong _ _ (sym (c .before .before .number-at .ensures) ∙ c .enum-told .given .1)
 
 returns-2 : tie.Need-returns-2 Inv-loop μ-loop
-returns-2 c =
-    let t = c .before .before in
-    contents-below _ _ (read (t .before)) (natural-is (first (t .before)) (t .before .known-told .given .0 .1) (t .to-natural .ensures) (c .enum-told2 .given .1))
+returns-2 c = contents-below _ _ (read (c .before)) (c .before .known-told .given .0 .1) (c .if1 .taken)
 
 loop-holds : tie.Need-loop-holds Inv-loop μ-loop
 loop-holds c =
-    let t = c .before .before .before in (
-      refl,
-      reached-first _ _ _ (start-of (t .before .before .before .before) .pre) (read (t .before))
-          (natural-is (first (t .before)) (t .before .known-told .given .0 .1) (t .to-natural .ensures) (c .before .announced .given .1)),
-    )
+    let t = c .before in
+    (refl, reached-first _ _ _ (start-of (t .before .before .before) .pre) (read t) (t .known-told .given .0 .1) (c .if1 .left))
 
 returns-3 : tie.Need-returns-3 Inv-loop μ-loop
 returns-3 c =
     let n = c .before .before in
-    reached-wrong (n .before .before .loop .inv .1) (n .before .loop-test .taken) (sym (n .number-at2 .ensures) ∙ c .enum-told3 .given .1)
+    reached-wrong (n .before .before .loop .inv .1) (n .before .loop-test .taken) (sym (n .number-at2 .ensures) ∙ c .enum-told2 .given .1)
 
-next-read : (c : tie.After-known-told3 Inv-loop μ-loop)
-    → numberAt (line (announced (head c .before))) (head c .loop .at) ≡ N.Value (c .before .v .given .0 .0) (c .before .v .given .0 .1 .0)
+next-read : (c : tie.After-known-told2 Inv-loop μ-loop)
+    → numberAt (line (head c .before .before)) (head c .loop .at) ≡ N.Value (c .before .v .given .0 .0) (c .before .v .given .0 .1 .0)
 next-read c = sym (c .before .before .before .number-at2 .ensures) ∙ c .before .v .given .1
 
 with-count-requires : tie.Need-with-count-requires Inv-loop μ-loop
 with-count-requires c κs = head (c .before) .loop .inv .1 .room
 
 -- the number that a turn read
-abbrev turn : tie.After-slice-known2 Inv-loop μ-loop → tie.After-known-told3 Inv-loop μ-loop
+abbrev turn : tie.After-slice-known2 Inv-loop μ-loop → tie.After-known-told2 Inv-loop μ-loop
 turn c = c .before .before .before .before
 
 add-n : tie.Need-add-n Inv-loop μ-loop
@@ -82,25 +74,25 @@ loop-less c = omega (arith, next-number _ (head (turn c) .loop .at) (next-read (
 loop-again : tie.Need-loop-again Inv-loop μ-loop
 loop-again c =
     let k = c .before .before .with-count .ensures in
-    (k .size ∙ head (turn c) .loop .inv .0, reached-next (head (turn c) .loop .inv .1) (next-read (turn c)) (turn c .known-told3 .given .0 .1) k)
+    (k .size ∙ head (turn c) .loop .inv .0, reached-next (head (turn c) .loop .inv .1) (next-read (turn c)) (turn c .known-told2 .given .0 .1) k)
 
 returns-4 : tie.Need-returns-4 Inv-loop μ-loop
-returns-4 c = ended-other (c .before .before .loop .inv .1) (c .before .loop-test .left) (c .if1 .taken)
+returns-4 c = ended-other (c .before .before .loop .inv .1) (c .before .loop-test .left) (c .if2 .taken)
 
 returns-5 : tie.Need-returns-5 Inv-loop μ-loop
 returns-5 c =
     let e = c .before .before in
-    ended-exceeded (e .before .before .loop .inv .1) (e .before .loop-test .left) (e .if1 .left) (c .enum-told4 .given .1)
+    ended-exceeded (e .before .before .loop .inv .1) (e .before .loop-test .left) (e .if2 .left) (c .enum-told3 .given .1)
 
 returns-6 : tie.Need-returns-6 Inv-loop μ-loop
 returns-6 c =
     let e = c .before .before .before .before in
-    ended-none (e .before .before .loop .inv .1) (e .before .loop-test .left) (e .if1 .left) (c .before .before .sum .given .1) (c .if2 .taken)
+    ended-none (e .before .before .loop .inv .1) (e .before .loop-test .left) (e .if2 .left) (c .before .before .sum .given .1) (c .if3 .taken)
 
 returns-7 : tie.Need-returns-7 Inv-loop μ-loop
 returns-7 c =
     let e = c .before .before .before .before in
-    ended-good (e .before .before .loop .inv .1) (e .before .loop-test .left) (e .if1 .left) (c .before .before .sum .given .1) (c .if2 .left)
+    ended-good (e .before .before .loop .inv .1) (e .before .loop-test .left) (e .if2 .left) (c .before .before .sum .given .1) (c .if3 .left)
 
 pub contents-of-spec : {M : Type 1} → statement M
 contents-of-spec =
@@ -108,9 +100,8 @@ contents-of-spec =
     (tie.spec
     Inv-loop μ-loop
     (λ c κs. tt) (λ c. search needs) (λ c. search needs)
-    returns
-    (λ c κs. tt) (λ c. search needs) (λ c. search needs)
-    returns-2
+    returns returns-2
+    (λ c. count-fits {v = first (c .before)} (record { sfits = c .before .known-told .given .0 .1 }) (c .if1 .left))
     loop-holds
     (λ c κs. tt) (λ c. search needs) (λ c. search needs) (λ c. c .before .before .before .before .loop .inv .0)
     returns-3
