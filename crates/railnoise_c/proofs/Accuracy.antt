@@ -70,7 +70,7 @@ module _ (text : List ℕ) (before after : List ℤ) (r : RailnoiseAnswer) (call
   module _ (enough : cellsNeeded (length (planIn text .entries)) ≤ length before) where
     check-is : levelsCheck plan (length before) ≡ Accepted
     unfolding planIn
-    check-is = rw plan-is (request-answered (planIn text) (length before) (accepted-text-has-entry text ok) enough)
+    check-is = rw plan-is (request-answered (planIn text) (length before) (accepted-text-has-entry ours ours-fit text ok) enough)
 
     accurate : AnswerAccurate (planIn text) r
     unfolding exported planIn answerBy checkNumber
@@ -79,7 +79,7 @@ module _ (text : List ℕ) (before after : List ℤ) (r : RailnoiseAnswer) (call
         (record {
           refusal = rw check-is refl;
           line = refl;
-          period = λ p trains. rw (period-exported p 0 answer) (exported-accurate p (planIn text) (resultIn p answer) (text-accurate text ok p trains before after answer enough answered));
+          period = λ p trains. rw (period-exported p 0 answer) (exported-accurate p (planIn text) (resultIn p answer) (text-accurate ours ours-fit text ok p trains before after answer enough answered));
         })
 
 pub call-accurate : CallAccurate

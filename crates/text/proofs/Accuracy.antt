@@ -10,18 +10,18 @@ use Rattle.steps.specs.declared.Period.{Period}
 use Rattle.steps.specs.declared.Check.the-variants.{Accepted}
 use Rattle.study.specs.declared.Study.{Study}
 use Rattle.study.specs.declared.request.Answer.{Answer}
-use Rattle.study.specs.Add.{ours}
-use Rattle.study.specs.Run.{accepted}
+use Rattle.study.specs.Add.{Limits}
+use Rattle.study.specs.Run.{accepted, LimitsFit}
 use Rattle.study.specs.Request.{cellsNeeded, Answered, resultIn}
 use Rattle.study.specs.Accuracy.{hasTrains, AccurateToBare}
-use Rattle.study.proofs.Demand3.{levels-accurate, ours-fit}
+use Rattle.study.proofs.Demand3.{levels-accurate}
 use Rattle.text.specs.Text.{readText}
 use Rattle.text.specs.Additions.{additionsOf}
 use Rattle.text.proofs.Runs.{accepted-text-is-run}
 
-pub text-accurate : (text : List ℕ) → readText ours text .check ≡ Accepted → (p : Period) → hasTrains p (accepted ours (additionsOf ours text) .entries) ≡ true →
-    (before after : List ℤ) (r : Answer) → cellsNeeded (length (accepted ours (additionsOf ours text) .entries)) ≤ length before →
-    Answered (readText ours text .study) before after r → AccurateToBare p (accepted ours (additionsOf ours text)) (resultIn p r)
-text-accurate text ok p trains before after r enough a =
-    levels-accurate ours ours-fit (additionsOf ours text) p trains before after r enough
-    (subst (λ (st : Study). Answered st before after r) (accepted-text-is-run ours text ok) a)
+pub text-accurate : (l : Limits) → LimitsFit l → (text : List ℕ) → readText l text .check ≡ Accepted → (p : Period) → hasTrains p (accepted l (additionsOf l text) .entries) ≡ true →
+    (before after : List ℤ) (r : Answer) → cellsNeeded (length (accepted l (additionsOf l text) .entries)) ≤ length before →
+    Answered (readText l text .study) before after r → AccurateToBare p (accepted l (additionsOf l text)) (resultIn p r)
+text-accurate l fit text ok p trains before after r enough a =
+    levels-accurate l fit (additionsOf l text) p trains before after r enough
+    (subst (λ (st : Study). Answered st before after r) (accepted-text-is-run l text ok) a)

@@ -1,6 +1,6 @@
 -- Laws of the parts of a list of bytes: where the first part ends, and what comes after it.
 -- Assumes nothing.
-use mathlib.Core.Path.{_≡_, refl, ap}
+use mathlib.Core.Path.{_≡_, refl, ap, _∙_}
 use Prim.Native.Nat.{ℕ, suc, _+_, _-_, _≤_, _<_}
 use mathlib.Core.List.{List, [], _∷_}
 use mathlib.Core.Bool.{Bool, true, false, cond}
@@ -8,7 +8,7 @@ use native.Mathlib.Numerals.{add-one}
 use native.Mathlib.Omega.{arith}
 use lib.ListN.{length, getD, take, drop, length-drop, drop-of-length-le}
 use lib.Seq.{drop-cons}
-use lib.Dec.{eqb, leb, ltb, leb·suc-suc}
+use lib.Dec.{eqb, ltb, leb·suc-suc}
 use borrow.Author.Tests.{eq-eqb, ne-eqb, lt-ltb}
 use Rattle.text.specs.Bytes.{until, split, onto}
 
@@ -25,6 +25,24 @@ module _ (sep : ℕ) (s : List ℕ) (i : ℕ) where
   pub until-skip : i < length s → (getD s i 0 ≡ sep → ⊥) → i + length (until sep (drop i s)) ≡ i + 1 + length (until sep (drop (i + 1) s))
   unfolding until
   until-skip h n = rw (add-one, drop-cons s i 0, ne-eqb (getD s i 0) sep n) (omega arith)
+
+-- a search for the separator from `at` on has come to `i` without meeting it
+pub record Sought (sep : ℕ) (s : List ℕ) (at i : ℕ) : Type 0 where
+  pub within : i ≤ length s
+  pub so : at + length (until sep (drop at s)) ≡ i + length (until sep (drop i s))
+
+pub sought-none : (sep : ℕ) (s : List ℕ) {at : ℕ} → at ≤ length s → Sought sep s at at
+sought-none sep s h = record { within = h; so = refl }
+
+module _ {sep : ℕ} {s : List ℕ} {at i : ℕ} (w : Sought sep s at i) where
+  pub sought-more : i < length s → (getD s i 0 ≡ sep → ⊥) → {j : ℕ} → j ≡ i + 1 → Sought sep s at j
+  sought-more h n e = rw e (record { within = omega arith; so = w .so ∙ until-skip sep s i h n })
+
+  pub sought-here : i < length s → getD s i 0 ≡ sep → i ≡ at + length (until sep (drop at s))
+  sought-here h e = omega (arith, w .so, ap length (until-stop sep s i h e))
+
+  pub sought-end : length s ≤ i → i ≡ at + length (until sep (drop at s))
+  sought-end h = omega (arith, w .so, ap length (until-end sep s i h))
 
 pub until-le : (sep : ℕ) (l : List ℕ) → length (until sep l) ≤ length l
 unfolding until

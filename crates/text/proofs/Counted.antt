@@ -6,7 +6,7 @@ use mathlib.Core.List.{List, [], _∷_}
 use mathlib.Core.Bool.{Bool, true, false, cond, _&&_}
 use mathlib.Core.Option.{Option, none, some}
 use native.Mathlib.Omega.{arith}
-use lib.ListN.{length, length-take}
+use lib.ListN.{length}
 use lib.Dec.{leb}
 use lib.IntN.{ℤ}
 use borrow.Author.Tests.{leb-true}
@@ -15,10 +15,9 @@ use Rattle.steps.specs.declared.Check.{Check}
 use Rattle.steps.specs.declared.Check.the-variants.{Accepted, Refused}
 use Rattle.study.specs.declared.Study.{Study}
 use Rattle.study.specs.Plan.{Plan, planOf, emptyStudy}
-use Rattle.study.specs.Add.{Limits, ours, segmentAnswer, trainAnswer, withSegment, withTrain, answer, addSegment, addTrain}
-use Rattle.study.specs.Run.{run, accepted}
-use Rattle.study.proofs.Runs.{run-sized, run-accepted}
-use Rattle.study.proofs.Demand3.{ours-fit}
+use Rattle.study.specs.Add.{Limits, segmentAnswer, trainAnswer, withSegment, withTrain, answer, addSegment, addTrain}
+use Rattle.study.specs.Run.{run, accepted, LimitsFit}
+use Rattle.study.proofs.Runs.{run-sized, rows-length, run-accepted}
 use Rattle.text.specs.Numbers.{numbersOf}
 use Rattle.text.specs.Lines.{segmentOf, trainOf}
 use Rattle.text.specs.Contents.{Read, refused, counts, isCount, countsIn, sumOf, between, inAll, contentsIn, contentsOf}
@@ -114,13 +113,11 @@ module _ (l : Limits) where
       go true f = from-total (linesOf text) f
       go false f = never f
 
-held-some : (st : Study) → length (st .entries) ≡ 96 → 0 < st .total → 0 < length (planOf st .entries)
-unfolding planOf
-held-some st rows h = omega (arith, length-take (st .total) (st .entries))
-
 -- so the request for levels over an accepted text's study is never turned back by 23
-pub accepted-text-has-entry : (text : List ℕ) → readText ours text .check ≡ Accepted → 0 < length (accepted ours (additionsOf ours text) .entries)
-accepted-text-has-entry text e =
-    let additions = additionsOf ours text in
-    subst (λ (plan : Plan). 0 < length (plan .entries)) (run-accepted ours ours-fit additions)
-    (held-some (run ours additions) (run-sized ours additions .rows) (subst (λ (st : Study). 0 < st .total) (accepted-text-is-run ours text e) (accepted-total ours text e)))
+pub accepted-text-has-entry : (l : Limits) → LimitsFit l → (text : List ℕ) → readText l text .check ≡ Accepted → 0 < length (accepted l (additionsOf l text) .entries)
+unfolding planOf
+accepted-text-has-entry l fit text e =
+    let additions = additionsOf l text in
+    let st = run l additions in
+    subst (λ (plan : Plan). 0 < length (plan .entries)) (run-accepted l fit additions)
+    (rw (rows-length l fit st (run-sized l additions)) (subst (λ (st : Study). 0 < st .total) (accepted-text-is-run l text e) (accepted-total l text e)))

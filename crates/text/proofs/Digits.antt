@@ -1,7 +1,8 @@
 -- Laws of the digits that stand at a position of a line: one at a time, and one to five of them as a number without a sign.
 -- Assumes nothing.
 use mathlib.Core.Path.{_≡_, refl, _∙_}
-use Prim.Native.Nat.{ℕ, suc, _+_, _-_, _*_, _^_, _≤_, _<_}
+use mathlib.Core.Logic.{⊎-elim, _⊎_, inl, inr}
+use Prim.Native.Nat.{ℕ, suc, _+_, _-_, _*_, _%_, _^_, _≤_, _<_}
 use mathlib.Core.List.{List, [], _∷_}
 use mathlib.Core.Bool.{Bool, true, false, not, cond, _&&_, _||_, and-false, or-true}
 use mathlib.Core.Option.{none, some}
@@ -18,6 +19,7 @@ use mir.Facts.{toZ-pos}
 use borrow.Author.Tests.{ne-eqb, eqb-true, eqb-false, le-leb, lt-leb}
 use Rattle.text.specs.Bytes.{until}
 use Rattle.text.specs.Numbers.{decimal, unsigned, negated}
+use Rattle.text.proofs.Cases.{lt-or-ge, apart}
 use Rattle.text.proofs.Bytes.{until-skip}
 
 -- the word at a position: up to the next space or the line's end
@@ -25,6 +27,14 @@ abbrev pub word : List ℕ → ℕ → List ℕ
 word line i = until 32 (drop i line)
 
 -- ---- digits, one at a time
+
+-- a byte less 48, wrapped: up to 9 it is the digit's value
+module _ {b d : ℕ} (wraps : (d + 48) % 2 ^ 8 ≡ b) where
+  pub digit-is : d ≤ 9 → b ≡ d + 48
+  digit-is h = omega arith
+
+  pub no-digit : 9 < d → d < 2 ^ 8 → (b < 48) ⊎ (57 < b)
+  no-digit h l = ⊎-elim (λ k. inr (omega arith)) (λ k. inl (omega arith)) (lt-or-ge (d + 48) 256)
 
 module _ (line : List ℕ) (i : ℕ) (h : i < length line) where
   pub word-more : (getD line i 0 ≡ 32 → ⊥) → word line i ≡ getD line i 0 ∷ word line (i + 1)
@@ -53,7 +63,7 @@ decimal-grows acc (b ∷ bs) {n} e = go (λ q. decimal-grows (acc * 10 + (b - 48
     go : (decimal (acc * 10 + (b - 48)) bs ≡ some n → acc * 10 + (b - 48) ≤ n) → (t : Bool)
         → cond t (decimal (acc * 10 + (b - 48)) bs) none ≡ some n → acc ≤ n
     go f true q = omega (arith, f q)
-    go f false q = let z : _≡_ {A = ℕ} 0 1 = cc in absurd (omega arith)
+    go f false q = apart (cc)
 
 -- the digits of a word from `at` up to `i`: at most five, of the value v
 pub record Passed (line : List ℕ) (at v i : ℕ) : Type 0 where
@@ -84,15 +94,16 @@ module _ {line : List ℕ} {at v i : ℕ} (r : Passed line at v i) where
   pub signed : toZ w32 v ≡ pos v
   signed = toZ-pos w32 (signed-fits .sfits)
 
-  pub passed-more : i < length line → i < at + 5 → 48 ≤ getD line i 0 → getD line i 0 ≤ 57 → Passed line at (v * 10 + (getD line i 0 - 48)) (i + 1)
-  passed-more h l a b =
-      let e : i + 1 - at ≡ suc (i - at) = omega arith in
+  pub passed-more : i < length line → i < at + 5 → {d : ℕ} → getD line i 0 ≡ d + 48 → d ≤ 9 → Passed line at (v * 10 + d) (i + 1)
+  passed-more h l {d} e n =
+      let k : i + 1 - at ≡ suc (i - at) = omega arith in
+      let z : getD line i 0 - 48 ≡ d = omega arith in
       record {
         from = omega arith;
         few = omega arith;
         within = omega arith;
-        small = rw (e, pow-suc 10 (i - at)) (omega arith);
-        digits = r .digits ∙ word-digit line i h v a b;
+        small = rw (k, pow-suc 10 (i - at)) (omega arith);
+        digits = r .digits ∙ word-digit line i h v (omega arith) (omega arith) ∙ rw z;
         ends = r .ends ∙ until-skip 32 line i h (λ q. omega arith);
       }
 
@@ -125,8 +136,8 @@ above-some b bs {n} p e = go (rightForm (b ∷ bs)) (leb 48 b && leb b 57) e
   where
     go : (t u : Bool) → cond t (cond u (decimal (0 * 10 + (b - 48)) bs) none) none ≡ some n → 0 < n
     go true true q = omega (arith, decimal-grows (0 * 10 + (b - 48)) bs q)
-    go true false q = let z : _≡_ {A = ℕ} 0 1 = cc in absurd (omega arith)
-    go false u q = let z : _≡_ {A = ℕ} 0 1 = cc in absurd (omega arith)
+    go true false q = apart (cc)
+    go false u q = apart (cc)
 
 -- a zero in front of more
 pub unsigned-zero : (b : ℕ) (bs : List ℕ) → unsigned (48 ∷ b ∷ bs) ≡ none

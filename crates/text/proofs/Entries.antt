@@ -1,15 +1,14 @@
--- Laws of the contents line: how many numbers it has, its entry counts one after another, and what each way out says of it.
+-- Laws of the contents line: its entry counts one after another, and what each way out says of it.
 -- Assumes nothing.
 use mathlib.Core.Path.{_≡_, refl, sym, ap, _∙_}
-use Prim.Native.Nat.{ℕ, _+_, _*_, _^_, _≤_, _<_}
-use mathlib.Core.List.{List, [], _∷_, _++_, append-nil}
-use mathlib.Core.Bool.{true, false, cond, true≢false}
+use Prim.Native.Nat.{ℕ, zero, suc, _+_, _^_, _≤_, _<_}
+use mathlib.Core.List.{List, [], _∷_, _++_, append-assoc, append-nil}
+use mathlib.Core.Bool.{Bool, true, false, cond, true≢false}
 use mathlib.Core.Option.{Option, none, some}
-use native.Mathlib.Numerals.{add-one}
 use native.Mathlib.Omega.{arith}
-use lib.ListN.{length, take, set, length-set}
+use lib.ListN.{length, take, set, length-append, length-set}
 use lib.Seq.{take-suc-set}
-use lib.Dec.{eqb, T}
+use lib.Dec.{eqb, leb, T}
 use lib.Signed.{ltZ, nonNeg, mag}
 use lib.IntN.{ℤ, pos, negsuc, natAbs}
 use mir.Syntax.{w32, w64}
@@ -17,225 +16,221 @@ use mir.Val.{SFits, Fits}
 use mir.Facts.{fits-natAbs}
 use borrow.Author.Tests.{eq-eqb, ne-eqb, le-leb, lt-leb, ltb-true}
 use Rattle.steps.specs.declared.Refusal.the-variants as R
-use Rattle.steps.specs.declared.Check.the-variants.{Accepted}
-use Rattle.study.specs.Add.{ours}
+use Rattle.study.specs.Add.{Limits}
 use Rattle.text.specs.Numbers.{front, numbersOf, numberAt}
-use Rattle.text.specs.Contents.{Read, refused, counts, isCount, entryCount, countsIn, sumOf, between, inAll, contentsIn, contentsOf}
-use Rattle.text.specs.Parts.{numbersFrom, naturalOf, countOf, countsFrom, ContentsRead}
+use Rattle.text.specs.Contents.{refused, counts, entryCount, countsIn, sumOf, between, inAll, contentsIn, contentsOf}
+use Rattle.text.specs.Private.{numbersFrom, countsRead, Held, Summed, Counted, ContentsRead}
 use Rattle.text.specs.declared.numbers.Number.the-variants as N
-use Rattle.text.specs.declared.contents.Natural.{Natural}
-use Rattle.text.specs.declared.contents.Natural.the-variants as L
-use Rattle.text.specs.declared.contents.Count.{Count}
-use Rattle.text.specs.declared.contents.Count.the-variants as C
-use Rattle.text.specs.declared.contents.Contents as contents
-use Rattle.text.proofs.Positions.{Stands, nothing, wrong, number, stands, next-number, wrong-number, past-end, whole-line, back, through}
+use Rattle.text.specs.declared.contents.Sum.{Sum}
+use Rattle.text.specs.declared.contents.Sum.the-variants as U
+use Rattle.text.specs.declared.contents.Contents.the-variants as C
+use Rattle.text.proofs.Cases.{apart}
+use Rattle.text.proofs.Positions.{next-number, wrong-number, past-end, whole-line, back, through}
 use Rattle.text.proofs.Fields.{onward, onward-front, onward-nil}
 
-pub same-contents : {x y : Read} {r : contents.Contents} → x ≡ y → ContentsRead x r → ContentsRead y r
-same-contents e d = rw e at d
+-- ---- a number that is not below zero
 
--- ---- how many numbers there are from a position on
+value-of : (v : ℤ) → ltZ v (pos 0) ≡ false → v ≡ pos (natAbs v)
+value-of (pos n) e = refl
+value-of (negsuc n) e = absurd (true≢false e)
 
--- n more
-abbrev pub more : ℕ → Count → Count
-more n C.Malformed = C.Malformed
-more n (C.Numbers m) = C.Numbers (n + m)
+-- by its bits
+module _ {v : ℤ} (f : SFits w32 v) (e : ltZ (back v) (pos 0) ≡ false) where
+  pub count-is : v ≡ pos (natAbs (back v))
+  count-is = through {v = v} (f .sfits) ∙ value-of (back v) e
 
-pub more-none : (k : Count) → k ≡ more 0 k
-more-none C.Malformed = refl
-more-none (C.Numbers m) = ap C.Numbers (omega arith)
-
-module _ (line : List ℕ) (at n : ℕ) where
-  pub count-next : {v : ℤ} {k : ℕ} → numberAt line at ≡ N.Value v k → more n (countOf (numbersFrom line at)) ≡ more (n + 1) (countOf (numbersFrom line k))
-  unfolding countOf front
-  count-next {v} {k} e = rw (next-number line at e .1) (go (numbersFrom line k))
+  pub count-fits : T (nonNeg (back v)) × Fits w64 (natAbs (back v))
+  count-fits = go (back v) (rw (← through {v = v} (f .sfits)) f) e
     where
-      go : (o : Option (List ℤ)) → more n (countOf (front v o)) ≡ more (n + 1) (countOf o)
-      go none = refl
-      go (some vs) = ap C.Numbers (omega arith)
-
-  pub count-wrong : at ≤ length line → numberAt line at ≡ N.Malformed → C.Malformed ≡ more n (countOf (numbersFrom line at))
-  unfolding countOf
-  count-wrong h e = rw (wrong-number line at h e)
-
-  pub count-end : length line < at → C.Numbers n ≡ more n (countOf (numbersFrom line at))
-  unfolding countOf
-  count-end h = rw (past-end line at h) (ap C.Numbers (omega arith))
+      go : (u : ℤ) → SFits w32 u → ltZ u (pos 0) ≡ false → T (nonNeg u) × Fits w64 (natAbs u)
+      go (pos n) g q = (tt, fits-natAbs tt g)
+      go (negsuc n) g q = absurd (true≢false q)
 
 -- ---- the entry counts, one after another
 
-sum-more : (cs : List ℕ) (c : ℕ) → sumOf (cs ++ (c ∷ [])) ≡ sumOf cs + c
+sum-append : (cs ds : List ℕ) → sumOf (cs ++ ds) ≡ sumOf cs + sumOf ds
 unfolding sumOf
-sum-more [] c = omega arith
-sum-more (b ∷ cs) c = rw (sum-more cs c) (omega arith)
+sum-append [] ds = omega arith
+sum-append (c ∷ cs) ds = omega (arith, sum-append cs ds)
 
-count-in : (v : ℤ) (c : ℕ) (o : Option (List ℕ)) → naturalOf v ≡ L.Value c → c ≤ 96 → entryCount 96 v o ≡ front c o
-count-in (pos m) c o e h = let q : m ≡ c = cc in rw (q, le-leb c 96 h)
-count-in (negsuc m) c o e h = let z : _≡_ {A = ℕ} 0 1 = cc in absurd (omega arith)
-
-count-over : (v : ℤ) (c : ℕ) (o : Option (List ℕ)) → naturalOf v ≡ L.Value c → 96 < c → entryCount 96 v o ≡ none
-count-over (pos m) c o e h = let q : m ≡ c = cc in rw (q, lt-leb c 96 h)
-count-over (negsuc m) c o e h = let z : _≡_ {A = ℕ} 0 1 = cc in absurd (omega arith)
-
-count-below : (v : ℤ) (o : Option (List ℕ)) → naturalOf v ≡ L.Negative → entryCount 96 v o ≡ none
-count-below (pos m) o e = let z : _≡_ {A = ℕ} 0 1 = cc in absurd (omega arith)
-count-below (negsuc m) o e = refl
-
--- the first i of n entry counts are in the list, and what is left of the line gives the whole answer
-pub record Entries (line : List ℕ) (start n : ℕ) (list : List ℕ) (sum at i : ℕ) : Type 0 where
-  pub rest : List ℤ
-  pub here : numbersFrom line at ≡ some rest
-  pub left : n ≡ i + length rest
-  pub size : length list ≡ 24
-  pub sum-is : sum ≡ sumOf (take i list)
-  pub small : sum ≤ 96 * i
-  pub whole : countsFrom ours (numbersFrom line start) ≡ inAll ours (onward (take i list) (countsIn 96 rest))
-
-pub entries-start : (line : List ℕ) (start n : ℕ) (list : List ℕ) → length list ≡ 24 → countOf (numbersFrom line start) ≡ C.Numbers n → Entries line start n list 0 start 0
-unfolding countOf sumOf
-entries-start line start n list l e = go (numbersFrom line start) refl (sym e)
-  where
-    go : (o : Option (List ℤ)) → numbersFrom line start ≡ o → C.Numbers n ≡ countOf o → Entries line start n list 0 start 0
-    go none q f = let z : _≡_ {A = ℕ} 0 1 = cc in absurd (omega arith)
-    go (some vs) q f =
-        let z : n ≡ length vs = cc in
-        record { rest = vs; here = q; left = omega arith; size = l; sum-is = refl; small = omega arith; whole = rw q (ap (inAll ours) (onward-nil (countsIn 96 vs))) }
-
--- what was left, by the number that is read next
-left-after : (v : ℤ) (o : Option (List ℤ)) {rest : List ℤ} → front v o ≡ some rest → (ws : List ℤ) × (o ≡ some ws) × (rest ≡ v ∷ ws)
+front-onward : {A : Type 0} (a : A) (bs : List A) (o : Option (List A)) → front a (onward bs o) ≡ onward (a ∷ bs) o
 unfolding front
-left-after v none e = let z : _≡_ {A = ℕ} 0 1 = cc in absurd (omega arith)
-left-after v (some ws) e = (ws, refl, cc)
+front-onward a bs none = refl
+front-onward a bs (some ds) = refl
 
-module _ {line : List ℕ} {start n : ℕ} {list : List ℕ} {sum at i : ℕ} (r : Entries line start n list sum at i) where
-  pub entries-wrong : i < n → numberAt line at ≡ N.Malformed → refused R.Contents ≡ countsFrom ours (numbersFrom line start)
-  entries-wrong h e = go (stands line at)
-    where
-      go : Stands line at → refused R.Contents ≡ countsFrom ours (numbersFrom line start)
-      go (nothing l k f) = let z : [] ≡ r .rest = cc in absurd (omega (arith, r .left, ap length z))
-      go (wrong l k f) = let z : _≡_ {A = ℕ} 0 1 = cc (r .here) in absurd (omega arith)
-      go (number v m l k f) = let z : _≡_ {A = ℕ} 0 1 = cc in absurd (omega arith)
+-- those that follow counts in range
+counts-onward : (most : ℕ) (vs us : List ℤ) (cs : List ℕ) → countsIn most vs ≡ some cs → countsIn most (vs ++ us) ≡ onward cs (countsIn most us)
+unfolding countsIn front
+counts-onward most [] us cs e = let z : [] ≡ cs = cc in rw (← z) (onward-nil (countsIn most us))
+counts-onward most (negsuc m ∷ vs) us cs e = apart (cc)
+counts-onward most (pos m ∷ vs) us cs e = go (leb m most) (countsIn most vs) (counts-onward most vs us) e
+  where
+    go : (t : Bool) (o : Option (List ℕ)) → ((ds : List ℕ) → o ≡ some ds → countsIn most (vs ++ us) ≡ onward ds (countsIn most us))
+        → cond t (front m o) none ≡ some cs → cond t (front m (countsIn most (vs ++ us))) none ≡ onward cs (countsIn most us)
+    go false o f q = apart (cc)
+    go true none f q = apart (cc)
+    go true (some ds) f q = let z : m ∷ ds ≡ cs = cc in rw (f ds refl, ← z) (front-onward m ds (countsIn most us))
 
-  module _ (v : ℤ) (k : ℕ) (e : numberAt line at ≡ N.Value v k) where
-    rest-is : (ws : List ℤ) × (numbersFrom line k ≡ some ws) × (r .rest ≡ v ∷ ws)
-    rest-is = left-after v (numbersFrom line k) (sym (next-number line at e .1) ∙ r .here)
+-- out of range as counts, whatever their number
+unless-counted : (l : Limits) (vs : List ℤ) → inAll l (countsIn (l .entries) vs) ≡ refused R.Contents → countsRead l vs ≡ refused R.Contents
+unless-counted l vs e = rw e (go (between 1 (l .segments) (length vs)))
+  where
+    go : (t : Bool) → cond t (refused R.Contents) (refused R.Contents) ≡ refused R.Contents
+    go true = refl
+    go false = refl
 
-    pub entries-next : (c : ℕ) → i < n → n ≤ 24 → naturalOf v ≡ L.Value c → c ≤ 96 → Entries line start n (set list i c) (sum + c) k (i + 1)
-    unfolding countsIn
-    entries-next c h b q l = go (rest-is .0) (rest-is .1) (rest-is .2)
+over-sum : (l : Limits) (cs : List ℕ) (c : ℕ) (o : Option (List ℕ)) → l .entries < sumOf cs + c → inAll l (onward cs (entryCount (l .entries) (pos c) o)) ≡ refused R.Contents
+unfolding front sumOf
+over-sum l cs c o h = go (leb c (l .entries)) o
+  where
+    go : (t : Bool) (o : Option (List ℕ)) → inAll l (onward cs (cond t (front c o) none)) ≡ refused R.Contents
+    go false o = refl
+    go true none = refl
+    go true (some ds) =
+        let e = sum-append cs (c ∷ ds) in
+        rw (le-leb 1 (sumOf (cs ++ (c ∷ ds))) (omega arith), lt-leb (sumOf (cs ++ (c ∷ ds))) (l .entries) (omega arith))
+
+-- one more after n counts
+module _ {l : Limits} {n : ℕ} {v : ℤ} (before : List ℕ) {from : Sum} where
+  pub still-exceeded : from ≡ U.Exceeded → Counted l n v before from before U.Exceeded
+  still-exceeded q = record { size = refl; next = λ vs e t us. rw append-assoc ((rw q at t) (v ∷ us)) }
+
+  module _ {sum : ℕ} (q : from ≡ U.Within sum) where
+    exceeded : ((vs : List ℤ) → length vs ≡ n → Held l vs before sum → (us : List ℤ) → countsRead l (vs ++ (v ∷ us)) ≡ refused R.Contents)
+        → Counted l n v before from before U.Exceeded
+    exceeded f = record { size = refl; next = λ vs e t us. rw append-assoc (f vs e (rw q at t) us) }
+
+    -- more than announced counts may be
+    pub exceeded-count : l .segments ≤ n → Counted l n v before from before U.Exceeded
+    exceeded-count h = exceeded many
       where
-        go : (ws : List ℤ) → numbersFrom line k ≡ some ws → r .rest ≡ v ∷ ws → Entries line start n (set list i c) (sum + c) k (i + 1)
-        go ws f w =
-            let t : take (i + 1) (set list i c) ≡ take i list ++ (c ∷ []) = rw add-one (take-suc-set list i c (omega (arith, r .size))) in
-            record {
-              rest = ws;
-              here = f;
-              left = omega (arith, r .left, ap length w);
-              size = rw length-set (r .size);
-              sum-is = rw (t, sum-more (take i list) c) (omega (arith, r .sum-is));
-              small = omega (arith, r .small);
-              whole = r .whole ∙ rw (w, count-in v c (countsIn 96 ws) q l, t) (ap (inAll ours) (onward-front (take i list) c (countsIn 96 ws)));
-            }
+        many : (vs : List ℤ) → length vs ≡ n → Held l vs before sum → (us : List ℤ) → countsRead l (vs ++ (v ∷ us)) ≡ refused R.Contents
+        many vs e t us =
+            let k = length-append vs (v ∷ us) in
+            rw (le-leb 1 (length (vs ++ (v ∷ us))) (omega arith), lt-leb (length (vs ++ (v ∷ us))) (l .segments) (omega arith))
 
-    pub entries-over : (c : ℕ) → naturalOf v ≡ L.Value c → 96 < c → refused R.Contents ≡ countsFrom ours (numbersFrom line start)
+    pub exceeded-below : ltZ v (pos 0) ≡ true → Counted l n v before from before U.Exceeded
     unfolding countsIn
-    entries-over c q l = sym (r .whole ∙ rw (rest-is .2, count-over v c _ q l))
-
-    pub entries-below : naturalOf v ≡ L.Negative → refused R.Contents ≡ countsFrom ours (numbersFrom line start)
-    unfolding countsIn
-    entries-below q = sym (r .whole ∙ rw (rest-is .2, count-below v _ q))
-
-  module _ (h : i ≡ n) where
-    entries-end : countsFrom ours (numbersFrom line start) ≡ cond (between 1 96 sum) (counts (take n list)) (refused R.Contents)
-    unfolding countsIn
-    entries-end =
-        let z : r .rest ≡ [] = empty (r .rest) (omega (arith, r .left)) in
-        r .whole ∙ rw (z, append-nil (take i list), r .sum-is, h)
+    exceeded-below p = exceeded (λ vs e t us. unless-counted l (vs ++ (v ∷ us)) (rw (counts-onward (l .entries) vs (v ∷ us) _ (t .are), none-below v us p)))
       where
-        empty : (vs : List ℤ) → length vs ≡ 0 → vs ≡ []
-        empty [] e = refl
-        empty (v ∷ vs) e = absurd (omega arith)
+        none-below : (v : ℤ) (us : List ℤ) → ltZ v (pos 0) ≡ true → countsIn (l .entries) (v ∷ us) ≡ none
+        none-below (pos m) us p = absurd (omega (arith, ltb-true m 0 p))
+        none-below (negsuc m) us p = refl
 
-    pub entries-zero : sum ≡ 0 → refused R.Contents ≡ countsFrom ours (numbersFrom line start)
-    entries-zero z = rw (entries-end, lt-leb 1 sum (omega arith))
+    module _ {c : ℕ} (p : v ≡ pos c) where
+      pub exceeded-sum : l .entries < sum + c → Counted l n v before from before U.Exceeded
+      unfolding countsIn
+      exceeded-sum h = exceeded (λ vs e t us. unless-counted l (vs ++ (v ∷ us))
+          (rw (counts-onward (l .entries) vs (v ∷ us) _ (t .are), p) (over-sum l (take (length vs) before) c (countsIn (l .entries) us) (omega (arith, t .sum-is)))))
 
-    pub entries-many : 96 < sum → refused R.Contents ≡ countsFrom ours (numbersFrom line start)
-    entries-many z = rw (entries-end, le-leb 1 sum (omega arith), lt-leb sum 96 z)
+      pub held-more : n < l .segments → l .segments ≤ length before → sum + c ≤ l .entries → Counted l n v before from (set before n c) (U.Within (sum + c))
+      unfolding countsIn sumOf front
+      held-more h room w = record { size = length-set before n c; next = λ vs e t. more vs e (rw q at t) }
+        where
+          more : (vs : List ℤ) → length vs ≡ n → Held l vs before sum → Held l (vs ++ (v ∷ [])) (set before n c) (sum + c)
+          more vs e t =
+              let k : length (vs ++ (v ∷ [])) ≡ suc n = omega (arith, length-append vs (v ∷ [])) in
+              let s : take (length (vs ++ (v ∷ []))) (set before n c) ≡ take (length vs) before ++ (c ∷ []) = rw (k, e) (take-suc-set before n c (omega arith)) in
+              record {
+                few = omega arith;
+                are = rw (s, counts-onward (l .entries) vs (v ∷ []) _ (t .are), p, le-leb c (l .entries) (omega arith));
+                sum-is = rw s (omega (arith, t .sum-is, sum-append (take (length vs) before) (c ∷ [])));
+                within = w;
+              }
 
-    pub entries-good : (sum ≡ 0 → ⊥) → sum ≤ 96 → n ≤ 24 → ContentsRead (countsFrom ours (numbersFrom line start)) (record { check = Accepted; count = n; list = list })
-    entries-good y z b = record { is = rw (entries-end, le-leb 1 sum (omega (arith, y)), le-leb sum 96 z); room = omega (arith, r .size) }
+-- ---- the whole line, from its first number
 
--- ---- an i32 as a natural number
-
-pub natural-below : (v : ℤ) → ltZ v (pos 0) ≡ true → L.Negative ≡ naturalOf v
-natural-below (pos n) e = absurd (omega (arith, ltb-true n 0 e))
-natural-below (negsuc n) e = refl
-
-pub natural-value : (v : ℤ) → ltZ v (pos 0) ≡ false → L.Value (natAbs v) ≡ naturalOf v
-natural-value (pos n) e = refl
-natural-value (negsuc n) e = absurd (true≢false e)
-
--- what was said of its bits
-pub natural-is : (v : ℤ) → mag v < 2 ^ 31 → {r x : Natural} → r ≡ naturalOf (back v) → r ≡ x → naturalOf v ≡ x
-natural-is v h e q = ap naturalOf (through {v = v} h) ∙ sym e ∙ q
-
-pub natural-fits : (v : ℤ) → SFits w32 v → ltZ v (pos 0) ≡ false → T (nonNeg v) × Fits w64 (natAbs v)
-natural-fits (pos n) f e = (tt, fits-natAbs tt f)
-natural-fits (negsuc n) f e = absurd (true≢false e)
-
--- ---- the contents line, from its first number
-
-module _ (line : List ℕ) where
-  pub contents-wrong : numberAt line 0 ≡ N.Malformed → refused R.Form ≡ contentsOf ours line
+module _ (l : Limits) (line : List ℕ) where
+  pub contents-wrong : numberAt line 0 ≡ N.Malformed → contentsOf l line ≡ refused R.Form
   unfolding contentsOf
   contents-wrong e = rw (← whole-line line, wrong-number line 0 (omega arith) e)
 
-  module _ (v : ℤ) (next : ℕ) (e : numberAt line 0 ≡ N.Value v next) where
-    first-is : numbersOf line ≡ front v (numbersFrom line next)
-    first-is = sym (whole-line line) ∙ next-number line 0 e .1
+  module _ {v : ℤ} {next : ℕ} (e : numberAt line 0 ≡ N.Value v next) (f : mag v < 2 ^ 31) where
+    first-is : numbersOf line ≡ front (back v) (numbersFrom line next)
+    first-is = sym (whole-line line) ∙ next-number line 0 e .1 ∙ ap (λ (u : ℤ). front u (numbersFrom line next)) (through {v = v} f)
 
-    pub contents-malformed : countOf (numbersFrom line next) ≡ C.Malformed → refused R.Form ≡ contentsOf ours line
-    unfolding contentsOf countOf front
-    contents-malformed q = rw first-is (go (numbersFrom line next) q)
+    pub contents-below : ltZ (back v) (pos 0) ≡ true → contentsOf l line ≡ refused R.Form
+    unfolding contentsOf front
+    contents-below p = rw first-is (go (back v) (numbersFrom line next) p)
       where
-        go : (o : Option (List ℤ)) → countOf o ≡ C.Malformed → refused R.Form ≡ contentsIn ours (front v o)
-        go none f = refl
-        go (some vs) f = let z : _≡_ {A = ℕ} 0 1 = cc in absurd (omega arith)
+        go : (u : ℤ) (o : Option (List ℤ)) → ltZ u (pos 0) ≡ true → contentsIn l (front u o) ≡ refused R.Form
+        go u none q = refl
+        go (pos m) (some vs) q = absurd (omega (arith, ltb-true m 0 q))
+        go (negsuc m) (some vs) q = refl
 
-    module _ (n : ℕ) (q : countOf (numbersFrom line next) ≡ C.Numbers n) where
-      contents-counted : contentsOf ours line ≡ cond (isCount v n) (cond (between 1 24 n) (countsFrom ours (numbersFrom line next)) (refused R.Contents)) (refused R.Form)
-      unfolding contentsOf countOf front
-      contents-counted = rw first-is (go (numbersFrom line next) q)
-        where
-          go : (o : Option (List ℤ)) → countOf o ≡ C.Numbers n
-              → contentsIn ours (front v o) ≡ cond (isCount v n) (cond (between 1 24 n) (countsFrom ours o) (refused R.Contents)) (refused R.Form)
-          go none f = let z : _≡_ {A = ℕ} 0 1 = cc in absurd (omega arith)
-          go (some vs) f = let z : length vs ≡ n = cc in rw z
+-- the line announces m counts, and the first n are read, up to a position
+pub record Reached (l : Limits) (line : List ℕ) (m : ℕ) (list : List ℕ) (sum : Sum) (at n : ℕ) : Type 0 where
+  pub vs : List ℤ
+  pub so : numbersOf line ≡ onward (pos m ∷ vs) (numbersFrom line at)
+  pub count : length vs ≡ n
+  pub summed : Summed l vs list sum
+  pub few : n ≤ at
+  pub room : l .segments ≤ length list
 
-      pub contents-negative : naturalOf v ≡ L.Negative → refused R.Form ≡ contentsOf ours line
-      contents-negative p = rw (contents-counted, no-count v p)
-        where
-          no-count : (u : ℤ) → naturalOf u ≡ L.Negative → isCount u n ≡ false
-          no-count (pos m) f = let z : _≡_ {A = ℕ} 0 1 = cc in absurd (omega arith)
-          no-count (negsuc m) f = refl
+pub reached-first : (l : Limits) (line : List ℕ) {v : ℤ} {at : ℕ} (list : List ℕ) → l .segments ≤ length list → numberAt line 0 ≡ N.Value v at → mag v < 2 ^ 31 → ltZ (back v) (pos 0) ≡ false
+    → Reached l line (natAbs (back v)) list (U.Within 0) at 0
+unfolding countsIn sumOf
+reached-first l line {v} {at} list room e f p =
+    let o = numbersFrom line at in
+    record {
+      vs = [];
+      so = first-is l line e f ∙ ap (λ (u : ℤ). front u o) (value-of (back v) p) ∙ ap (front (pos (natAbs (back v)))) (onward-nil o) ∙ front-onward (pos (natAbs (back v))) [] o;
+      count = refl;
+      summed = record { few = omega arith; are = refl; sum-is = refl; within = omega arith };
+      few = omega arith;
+      room = room;
+    }
 
-      module _ (m : ℕ) (p : naturalOf v ≡ L.Value m) where
-        count-is : isCount v n ≡ eqb m n
-        count-is = go v p
+module _ {l : Limits} {line : List ℕ} {m : ℕ} {list : List ℕ} {sum : Sum} {at n : ℕ} (r : Reached l line m list sum at n) where
+  pub reached-next : {v : ℤ} {next : ℕ} {after : List ℕ} {to : Sum} → numberAt line at ≡ N.Value v next → mag v < 2 ^ 31 → Counted l n (back v) list sum after to
+      → Reached l line m after to next (n + 1)
+  reached-next {v} {next} {after} {to} e f b =
+      let z = next-number line at e in
+      let k : Counted l n v list sum after to = rw (← through {v = v} f) at b in
+      record {
+        vs = r .vs ++ (v ∷ []);
+        so = r .so ∙ ap (onward (pos m ∷ r .vs)) (z .1) ∙ onward-front (pos m ∷ r .vs) v (numbersFrom line next);
+        count = omega (arith, r .count, length-append (r .vs) (v ∷ []));
+        summed = k .next (r .vs) (r .count) (r .summed);
+        few = omega (arith, r .few, z .0);
+        room = omega (arith, r .room, k .size);
+      }
+
+  pub reached-wrong : at ≤ length line → numberAt line at ≡ N.Malformed → contentsOf l line ≡ refused R.Form
+  unfolding contentsOf
+  reached-wrong h e = rw (r .so, wrong-number line at h e)
+
+  -- the line's end
+  module _ (h : length line < at) where
+    ended : contentsOf l line ≡ cond (eqb m n) (countsRead l (r .vs)) (refused R.Form)
+    unfolding contentsOf
+    ended = rw (r .so, past-end line at h, append-nil (r .vs), r .count)
+
+    pub ended-other : (m ≡ n → ⊥) → contentsOf l line ≡ refused R.Form
+    ended-other d = rw (ended, ne-eqb m n d)
+
+    module _ (d : m ≡ n) where
+      counted : contentsOf l line ≡ countsRead l (r .vs)
+      counted = rw (ended, eq-eqb m n d)
+
+      pub ended-exceeded : sum ≡ U.Exceeded → contentsOf l line ≡ refused R.Contents
+      ended-exceeded q = let f : Summed l (r .vs) list U.Exceeded = rw q at (r .summed) in counted ∙ rw append-nil at (f [])
+
+      module _ {s : ℕ} (q : sum ≡ U.Within s) where
+        held : Held l (r .vs) list s
+        held = rw q at (r .summed)
+
+        pub ended-none : s ≡ 0 → contentsOf l line ≡ refused R.Contents
+        ended-none z = counted ∙ unless-counted l (r .vs) (rw (held .are, ← held .sum-is, z))
+
+        pub ended-good : (s ≡ 0 → ⊥) → ContentsRead (contentsOf l line) list (C.Counts n)
+        unfolding sumOf
+        ended-good z =
+            let b : 1 ≤ length (r .vs) = positive (length (r .vs)) (held .sum-is) in (
+              omega (arith, r .count, r .room, held .few),
+              counted ∙ rw (le-leb 1 (length (r .vs)) b, le-leb (length (r .vs)) (l .segments) (held .few), held .are, ← held .sum-is, le-leb 1 s (omega (arith, z)), le-leb s (l .entries) (held .within), r .count),
+            )
           where
-            go : (u : ℤ) → naturalOf u ≡ L.Value m → isCount u n ≡ eqb m n
-            go (pos k) f = let z : k ≡ m = cc in rw z
-            go (negsuc k) f = let z : _≡_ {A = ℕ} 0 1 = cc in absurd (omega arith)
-
-        pub contents-other : (m ≡ n → ⊥) → refused R.Form ≡ contentsOf ours line
-        contents-other d = rw (contents-counted, count-is, ne-eqb m n d)
-
-        module _ (d : m ≡ n) where
-          pub contents-none : n ≡ 0 → refused R.Contents ≡ contentsOf ours line
-          contents-none z = rw (contents-counted, count-is, eq-eqb m n d, lt-leb 1 n (omega arith))
-
-          pub contents-many : 24 < n → refused R.Contents ≡ contentsOf ours line
-          contents-many z = rw (contents-counted, count-is, eq-eqb m n d, le-leb 1 n (omega arith), lt-leb n 24 z)
-
-          pub contents-counts : (n ≡ 0 → ⊥) → n ≤ 24 → countsFrom ours (numbersFrom line next) ≡ contentsOf ours line
-          contents-counts y z = rw (contents-counted, count-is, eq-eqb m n d, le-leb 1 n (omega (arith, y)), le-leb n 24 z)
+            positive : (k : ℕ) → s ≡ sumOf (take k list) → 1 ≤ k
+            positive zero e = absurd (z e)
+            positive (suc k) e = omega arith

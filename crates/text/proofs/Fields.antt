@@ -12,7 +12,7 @@ use lib.Signed.{mag}
 use lib.IntN.{ℤ}
 use borrow.Author.Tests.{ne-eqb, eq-eqb}
 use Rattle.text.specs.Numbers.{front, numbersOf, exactly, numberAt}
-use Rattle.text.specs.Parts.{numbersFrom}
+use Rattle.text.specs.Private.{numbersFrom}
 use Rattle.text.specs.declared.numbers.Number.{Number}
 use Rattle.text.specs.declared.numbers.Number.the-variants as N
 use Rattle.text.proofs.Positions.{Stands, nothing, wrong, number, stands, next-number, past-end, whole-line, back, through}

@@ -1,3 +1,4 @@
+pub mod Cases
 pub mod Bytes
 pub mod Digits
 pub mod Values

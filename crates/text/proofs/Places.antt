@@ -18,7 +18,7 @@ use Rattle.study.specs.Add.{ours}
 use Rattle.text.specs.Bytes.{until, split}
 use Rattle.text.specs.Lines.{segmentOf, trainOf}
 use Rattle.text.specs.Text.{ended, unended, lastLine, linesIn, linesOf}
-use Rattle.text.specs.Parts.{Found, firstAnswer, segmentLineAnswer, trainLineAnswer, SegmentAt, TrainAt, faultOf}
+use Rattle.text.specs.Private.{Found, firstAnswer, segmentLineAnswer, trainLineAnswer, SegmentAt, TrainAt, faultOf}
 use Rattle.text.specs.declared.lines.SegmentLine.the-variants as S
 use Rattle.text.specs.declared.lines.TrainLine.the-variants as T
 use Rattle.text.specs.declared.SegmentStep.{SegmentStep}
@@ -26,7 +26,7 @@ use Rattle.text.specs.declared.SegmentStep.the-variants as SS
 use Rattle.text.specs.declared.TrainStep.{TrainStep}
 use Rattle.text.specs.declared.TrainStep.the-variants as TS
 use Rattle.text.proofs.Bytes.{split-first, until-within}
-use Rattle.text.proofs.Positions.{lt-or-ge}
+use Rattle.text.proofs.Cases.{lt-or-ge}
 
 last-torn : (u : List ℕ) → 0 < length u → lastLine u ≡ unended ∷ []
 last-torn [] h = absurd (omega arith)

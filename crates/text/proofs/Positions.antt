@@ -1,10 +1,10 @@
 -- The next number of a line, by position: what stands there, and what it says of all the line's numbers.
 -- Assumes nothing.
-use mathlib.Core.Path.{_≡_, refl, sym, ap, _∙_}
-use mathlib.Core.Logic.{⊎-elim, _⊎_, inl, inr}
+use mathlib.Core.Path.{_≡_, refl, sym, ap}
+use mathlib.Core.Logic.{⊎-elim}
 use Prim.Native.Nat.{ℕ, suc, _+_, _^_, _≤_, _<_}
 use mathlib.Core.List.{List, [], _∷_, map}
-use mathlib.Core.Bool.{Bool, true, false, cond}
+use mathlib.Core.Bool.{cond}
 use mathlib.Core.Option.{Option, none, some}
 use native.Mathlib.Omega.{arith}
 use lib.ListN.{length, drop, length-drop}
@@ -15,20 +15,14 @@ use lib.IntN.{ℤ}
 use mir.Syntax.{w32}
 use mir.Val.{toZ, ofZ}
 use mir.Facts.{toZ-ofZ}
-use borrow.Author.Tests.{le-leb, lt-leb, lt-ltb, le-ltb, ltb-true, ltb-false}
+use borrow.Author.Tests.{le-leb, lt-leb, lt-ltb, le-ltb}
 use Rattle.text.specs.Bytes.{until, split}
-use Rattle.text.specs.Numbers.{valueOf, front, every, numbersOf, numberAs, numberAt}
-use Rattle.text.specs.Parts.{numbersFrom}
+use Rattle.text.specs.Numbers.{valueOf, front, allOf, numbersOf, numberAs, numberAt}
+use Rattle.text.specs.Private.{numbersFrom}
 use Rattle.text.specs.declared.numbers.Number.the-variants as N
+use Rattle.text.proofs.Cases.{lt-or-ge, apart}
 use Rattle.text.proofs.Bytes.{split-first}
 use Rattle.text.proofs.Values.{number-past}
-
-pub lt-or-ge : (a b : ℕ) → (a < b) ⊎ (b ≤ a)
-lt-or-ge a b = go (ltb a b) refl
-  where
-    go : (t : Bool) → ltb a b ≡ t → (a < b) ⊎ (b ≤ a)
-    go true e = inl (ltb-true a b e)
-    go false e = inr (ltb-false a b e)
 
 -- ---- what stands at a position
 
@@ -45,23 +39,23 @@ abbrev firstThen : Option ℤ → Option (List ℤ) → Option (List ℤ)
 firstThen none o = none
 firstThen (some v) o = front v o
 
-every-first : (o : Option ℤ) (os : List (Option ℤ)) → every (o ∷ os) ≡ firstThen o (every os)
-unfolding every
-every-first none os = refl
-every-first (some v) os = refl
+all-first : (o : Option ℤ) (os : List (Option ℤ)) → allOf (o ∷ os) ≡ firstThen o (allOf os)
+unfolding allOf
+all-first none os = refl
+all-first (some v) os = refl
 
 word-then-rest : (line : List ℕ) (at : ℕ) → at ≤ length line
     → numbersFrom line at ≡ firstThen (valueOf (until 32 (drop at line))) (numbersFrom line (at + length (until 32 (drop at line)) + 1))
-unfolding numbersFrom numbersOf every
+unfolding numbersFrom numbersOf allOf
 word-then-rest line at h =
-    rw (le-leb at (length line) h, split-first 32 (drop at line), every-first)
+    rw (le-leb at (length line) h, split-first 32 (drop at line), all-first)
     (ap (firstThen (valueOf (until 32 (drop at line)))) (⊎-elim more last (lt-or-ge k (length (drop at line)))))
   where
     k : ℕ
     k = length (until 32 (drop at line))
 
     rest : Option (List ℤ)
-    rest = every (map valueOf (cond (ltb k (length (drop at line))) (split 32 (drop (suc k) (drop at line))) []))
+    rest = allOf (map valueOf (cond (ltb k (length (drop at line))) (split 32 (drop (suc k) (drop at line))) []))
 
     more : k < length (drop at line) → rest ≡ numbersFrom line (at + k + 1)
     more l =
@@ -101,8 +95,8 @@ module _ (line : List ℕ) (at : ℕ) where
   next-number {v} {n} e = go (stands line at)
     where
       go : Stands line at → (at < n) × (numbersFrom line at ≡ front v (numbersFrom line n))
-      go (nothing h q f) = let z : _≡_ {A = ℕ} 0 1 = cc in absurd (omega arith)
-      go (wrong h q f) = let z : _≡_ {A = ℕ} 0 1 = cc in absurd (omega arith)
+      go (nothing h q f) = apart (cc)
+      go (wrong h q f) = apart (cc)
       go (number u m h q f) = let z : m ≡ n = cc in (omega arith, cc)
 
   pub wrong-number : at ≤ length line → numberAt line at ≡ N.Malformed → numbersFrom line at ≡ none

@@ -18,21 +18,23 @@ use Rattle.study.specs.Plan.{emptyStudy}
 use Rattle.study.specs.Add.{Limits, answer, withSegment, withTrain, addSegment, addTrain}
 use Rattle.text.specs.Bytes.{until}
 use Rattle.text.specs.Lines.{segmentOf, trainOf}
-use Rattle.text.specs.Contents.{Read, contentsOf}
+use Rattle.text.specs.Contents.{Read, refused, counts, contentsOf}
 use Rattle.text.specs.Text as K
 use Rattle.text.specs.Text.{Line, ended, unended, linesOf, Kind, trains, kindsOf, segmentAdds, trainAdds, addLine, acceptedWith, refusedAt, readLines, readBody, readFrom, readText}
-use Rattle.text.specs.Parts.{Found, segmentLineAnswer, trainLineAnswer, firstAnswer, ContentsRead}
+use Rattle.text.specs.Private.{Found, segmentLineAnswer, trainLineAnswer, firstAnswer, ContentsRead}
 use Rattle.text.specs.declared.Reading.{Reading}
-use Rattle.text.specs.declared.contents.Contents as contents
+use Rattle.text.specs.declared.contents.Contents.{Contents}
+use Rattle.text.specs.declared.contents.Contents.the-variants as C
 use Rattle.text.specs.declared.lines.SegmentLine.{SegmentLine}
 use Rattle.text.specs.declared.lines.SegmentLine.the-variants as S
 use Rattle.text.specs.declared.lines.TrainLine.{TrainLine}
 use Rattle.text.specs.declared.lines.TrainLine.the-variants as T
+use Rattle.text.proofs.Cases.{apart}
 use Rattle.text.proofs.Bytes.{until-within}
 use Rattle.text.proofs.Places.{View, at-end, at-torn, at-line, view}
 
 pub never : {A : Type 0} {r : Refusal} → Refused r ≡ Accepted → A
-never e = let z : _≡_ {A = ℕ} 0 1 = cc in absurd (omega arith)
+never e = apart (cc)
 
 -- ---- a kind of line: what is read of it, what that answers, and the study that it makes where it is accepted
 
@@ -194,9 +196,16 @@ module _ (l : Limits) (text : List ℕ) where
         pub text-within : length line + 1 ≤ length text
         text-within = omega (arith, n, ap length q, until-within 10 text 0 (omega arith))
 
-module _ (l : Limits) {r : contents.Contents} {x : Read} (e : ContentsRead x r) (xs : List Line) where
-  pub body-refused : {f : Refusal} → r .check ≡ Refused f → refusedAt f 1 ≡ readBody l x xs
-  body-refused {f} n = rw (← e .is, n)
+module _ (l : Limits) (list : List ℕ) {r : Contents} (x : Read) (e : ContentsRead x list r) where
+  pub body-refused : (xs : List Line) {f : Refusal} → r ≡ C.Refused f → refusedAt f 1 ≡ readBody l x xs
+  body-refused xs {f} q = let z : x ≡ refused f = rw q at e in rw z
 
-  pub body-read : r .check ≡ Accepted → readLines l emptyStudy 2 (kindsOf (take (r .count) (r .list))) xs ≡ readBody l x xs
-  body-read n = rw (← e .is, n)
+  module _ {n : ℕ} (q : r ≡ C.Counts n) where
+    counted : (n ≤ length list) × (x ≡ counts (take n list))
+    counted = rw q at e
+
+    pub body-room : n ≤ length list
+    body-room = counted .0
+
+    pub body-read : (xs : List Line) → readLines l emptyStudy 2 (kindsOf (take n list)) xs ≡ readBody l x xs
+    body-read xs = rw (counted .1)

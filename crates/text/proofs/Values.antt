@@ -1,8 +1,9 @@
 -- Laws of the number that stands at a position of a line, by its first byte.
 -- Assumes nothing.
 use mathlib.Core.Path.{_≡_, refl, sym, ap, _∙_}
+use mathlib.Core.Logic.{⊎-elim, _⊎_}
 use Prim.Native.Nat.{ℕ, zero, suc, _+_, _≤_, _<_}
-use mathlib.Core.List.{List, [], _∷_}
+use mathlib.Core.List.{List, []}
 use mathlib.Core.Bool.{Bool, true, false, cond}
 use mathlib.Core.Option.{Option, none, some}
 use native.Mathlib.Omega.{arith}
@@ -16,6 +17,7 @@ use borrow.Author.Tests.{eq-eqb, ne-eqb, eqb-true, eqb-false, le-leb}
 use Rattle.text.specs.Numbers.{decimal, unsigned, negated, plain, valueOf, numberAs, numberAt}
 use Rattle.text.specs.declared.numbers.Number.{Number}
 use Rattle.text.specs.declared.numbers.Number.the-variants as N
+use Rattle.text.proofs.Cases.{apart}
 use Rattle.text.proofs.Bytes.{until-stop, until-end, until-skip}
 use Rattle.text.proofs.Digits.{word, word-more, word-low, word-high, Passed, unsigned-wrong, unsigned-long, unsigned-above, above-some, unsigned-zero, negated-low, signed}
 
@@ -78,11 +80,8 @@ module _ (line : List ℕ) (at : ℕ) (h : at < length line) where
       unfolding numberAs plain
       wrong q = rw (number-above, unsigned-wrong (word line at) (r .digits ∙ q))
 
-      pub above-low : i < length line → (getD line i 0 ≡ 32 → ⊥) → getD line i 0 < 48 → N.Malformed ≡ numberAt line at
-      above-low l n a = wrong (word-low line i l v n a)
-
-      pub above-high : i < length line → 57 < getD line i 0 → N.Malformed ≡ numberAt line at
-      above-high l a = wrong (word-high line i l v a)
+      pub above-other : i < length line → (getD line i 0 ≡ 32 → ⊥) → (getD line i 0 < 48) ⊎ (57 < getD line i 0) → N.Malformed ≡ numberAt line at
+      above-other l n a = wrong (⊎-elim (word-low line i l v n) (word-high line i l v) a)
 
       pub above-long : i < length line → (getD line i 0 ≡ 32 → ⊥) → at + 5 ≤ i → N.Malformed ≡ numberAt line at
       unfolding numberAs plain
@@ -119,7 +118,7 @@ module _ (k : ℕ) {n : ℕ} {v : ℤ} where
   -- an i32 that is not below zero has its negative
   sign-fits : (o : Option ℕ) → numberAs (plain o) k ≡ N.Value v n → SFits w32 v → SFits w32 (negℤ v)
   unfolding numberAs plain
-  sign-fits none e f = let z : _≡_ {A = ℕ} 0 1 = cc in absurd (omega arith)
+  sign-fits none e f = apart (cc)
   sign-fits (some zero) e f = let q : v ≡ pos zero = cc in rw q (record { sfits = omega arith })
   sign-fits (some (suc m)) e f = let q : v ≡ pos (suc m) = cc in rw q (record { sfits = omega (arith, rw q at (f .sfits)) })
 

@@ -4,4 +4,4 @@ pub mod Lines
 pub mod Contents
 pub mod Text
 pub mod Additions
-pub mod Parts
+pub mod Private

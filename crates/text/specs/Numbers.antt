@@ -43,15 +43,15 @@ front v none = none
 front v (some vs) = some (v ∷ vs)
 
 -- all of them, where each is there
-unfoldable pub every : List (Option ℤ) → Option (List ℤ)
+unfoldable pub allOf : List (Option ℤ) → Option (List ℤ)
 unfolding front
-every [] = some []
-every (none ∷ os) = none
-every (some v ∷ os) = front v (every os)
+allOf [] = some []
+allOf (none ∷ os) = none
+allOf (some v ∷ os) = front v (allOf os)
 
 -- the numbers of a line, one space between them; none where any word is no number
 unfoldable pub numbersOf : List ℕ → Option (List ℤ)
-numbersOf line = every (map valueOf (split 32 line))
+numbersOf line = allOf (map valueOf (split 32 line))
 
 -- "A line of another number count is 12": none unless there are n
 unfoldable pub exactly : ℕ → Option (List ℤ) → Option (List ℤ)

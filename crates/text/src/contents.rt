@@ -1,128 +1,92 @@
 // The contents, a text's first line: the segment count, then each segment's entry count.
-ghost use mathlib.Core.Path.{_≡_};
 ghost use Prim.Native.Nat.{_≤_};
 ghost use lib.ListN.{length};
-ghost use Rattle.study.specs.Add.{ours};
-ghost use Rattle.text.specs.Contents.{refused, contentsOf};
-ghost use Rattle.text.specs.Parts.{numbersFrom, naturalOf, countOf, ContentsRead, countsFrom};
+ghost use Rattle.text.specs.Contents.{contentsOf};
+ghost use Rattle.text.specs.Private.{limits, Counted, ContentsRead};
 use crate::numbers::Number;
 use crate::numbers::number_at;
-use steps::Check;
 use steps::Refusal;
-use study::MOST_ENTRIES;
-use study::MOST_SEGMENTS;
 
-enum Natural {
-    Value(usize),
-    Negative,
+// The sum of the entry counts so far, or that they are out of range.
+enum Sum {
+    Within(usize),
+    Exceeded,
 }
 
-enum Count {
-    Numbers(usize),
-    Malformed,
+// How many entry counts there are, the first of the lent ones, or why the line is refused.
+pub(crate) enum Contents {
+    Counts(usize),
+    Refused(Refusal),
 }
 
-// The segments' entry counts, the first `count` of the list, or the refusal.
-pub(crate) struct Contents {
-    pub(crate) check: Check,
-    pub(crate) count: usize,
-    pub(crate) list: [usize; MOST_SEGMENTS],
-}
-
-fn to_natural(v: i32) -> Natural
-    ensures { λ r. ⌜ r ≡ naturalOf v ⌝ }
+// One more entry count after n of them. It is kept where it and the sum are in range.
+fn with_count(
+    sum: Sum,
+    n: usize,
+    v: i32,
+    segments: usize,
+    entries: usize,
+    counts: &mut [usize],
+) -> Sum
+    requires { ⌜ segments ≤ length (now counts) ⌝ }
+    ensures { λ r. ⌜ Counted (limits segments entries) n v (now (counts .entry)) sum (now (counts .exit)) r ⌝ }
 {
+    let Sum::Within(before) = sum else {
+        return Sum::Exceeded;
+    };
     if v < 0 {
-        return Natural::Negative;
+        return Sum::Exceeded;
     }
-    Natural::Value(v as usize)
+    let count = v as usize;
+    if segments <= n {
+        return Sum::Exceeded;
+    }
+    if entries < count {
+        return Sum::Exceeded;
+    }
+    if entries - count < before {
+        return Sum::Exceeded;
+    }
+    counts[n] = count;
+    Sum::Within(before + count)
 }
 
-// How many numbers stand on a line from a position on, where each has the right form.
-fn count_numbers(line: &[u8], start: usize) -> Count
-    ensures { λ r. ⌜ r ≡ countOf (numbersFrom (now (line .entry)) start) ⌝ }
+// The contents line, of at most so many segments and entries. Every number's form comes before any range, so a count out of range is told at the line's end.
+pub(crate) fn contents_of(
+    line: &[u8],
+    segments: usize,
+    entries: usize,
+    counts: &mut [usize],
+) -> Contents
+    requires { ⌜ segments ≤ length (now counts) ⌝ }
+    ensures { λ r. ⌜ ContentsRead (contentsOf (limits segments entries) (now (line .entry))) (now (counts .exit)) r ⌝ }
 {
-    let mut at = start;
+    let Number::Value(first, after) = number_at(line, 0) else {
+        return Contents::Refused(Refusal::Form);
+    };
+    if first < 0 {
+        return Contents::Refused(Refusal::Form);
+    }
+    let announced = first as usize;
+    let mut sum = Sum::Within(0);
+    let mut at = after;
     let mut n = 0;
     while at <= line.len() {
-        let Number::Value(_, next) = number_at(line, at) else {
-            return Count::Malformed;
+        let Number::Value(v, next) = number_at(line, at) else {
+            return Contents::Refused(Refusal::Form);
         };
+        sum = with_count(sum, n, v, segments, entries, counts);
         at = next;
         n += 1;
     }
-    Count::Numbers(n)
-}
-
-// The contents that are refused.
-fn refused_contents(refusal: Refusal) -> Contents
-    ensures { λ r. ⌜ ContentsRead (refused refusal) r ⌝ }
-{
-    Contents {
-        check: Check::Refused(refusal),
-        count: 0,
-        list: [0usize; MOST_SEGMENTS],
+    if announced != n {
+        return Contents::Refused(Refusal::Form);
     }
-}
-
-// The entry counts from a position on, each from 0 to 96, in all 1 to 96.
-fn counts_from(line: &[u8], start: usize, n: usize) -> Contents
-    requires { ⌜ (n ≤ 24) × (countOf (numbersFrom (now line) start) ≡ Count.Numbers n) ⌝ }
-    ensures { λ r. ⌜ ContentsRead (countsFrom ours (numbersFrom (now (line .entry)) start)) r ⌝ }
-{
-    let mut list = [0usize; MOST_SEGMENTS];
-    let mut sum = 0;
-    let mut at = start;
-    let mut i = 0;
-    while i < n {
-        let Number::Value(v, next) = number_at(line, at) else {
-            return refused_contents(Refusal::Contents);
-        };
-        let Natural::Value(c) = to_natural(v) else {
-            return refused_contents(Refusal::Contents);
-        };
-        if MOST_ENTRIES < c {
-            return refused_contents(Refusal::Contents);
-        }
-        list[i] = c;
-        sum += c;
-        at = next;
-        i += 1;
-    }
-    if sum == 0 {
-        return refused_contents(Refusal::Contents);
-    }
-    if MOST_ENTRIES < sum {
-        return refused_contents(Refusal::Contents);
-    }
-    Contents {
-        check: Check::Accepted,
-        count: n,
-        list,
-    }
-}
-
-// The contents line.
-pub(crate) fn contents_of(line: &[u8]) -> Contents
-    ensures { λ r. ⌜ ContentsRead (contentsOf ours (now (line .entry))) r ⌝ }
-{
-    let Number::Value(v, next) = number_at(line, 0) else {
-        return refused_contents(Refusal::Form);
+    let Sum::Within(total) = sum else {
+        return Contents::Refused(Refusal::Contents);
     };
-    let Count::Numbers(n) = count_numbers(line, next) else {
-        return refused_contents(Refusal::Form);
-    };
-    let Natural::Value(first) = to_natural(v) else {
-        return refused_contents(Refusal::Form);
-    };
-    if first != n {
-        return refused_contents(Refusal::Form);
+    if total == 0 {
+        return Contents::Refused(Refusal::Contents);
     }
-    if n == 0 {
-        return refused_contents(Refusal::Contents);
-    }
-    if MOST_SEGMENTS < n {
-        return refused_contents(Refusal::Contents);
-    }
-    counts_from(line, next, n)
+    Contents::Counts(n)
 }

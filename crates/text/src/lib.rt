@@ -10,7 +10,8 @@ ghost use Rattle.study.specs.Add.{ours};
 ghost use Rattle.study.specs.Plan.{emptyStudy};
 ghost use Rattle.text.specs.Bytes.{until};
 ghost use Rattle.text.specs.Text.{acceptedWith, refusedAt, readLines, kindsOf, linesOf, readText};
-ghost use Rattle.text.specs.Parts.{SegmentAt, TrainAt, faultOf};
+ghost use Rattle.text.specs.Private.{SegmentAt, TrainAt, faultOf};
+use contents::Contents;
 use contents::contents_of;
 use lines::SegmentLine;
 use lines::TrainLine;
@@ -53,11 +54,27 @@ enum TrainStep {
     Refused(Refusal),
 }
 
-// The position of the first `sep` of `s` from `at` on; where there is none the length, or `at` itself past it.
+// The position of the first `sep` of `s` from `at` on, or the length where there is none. Four bytes a turn: the loop's own test is paid once for four.
 fn find(s: &[u8], at: usize, sep: u8) -> usize
+    requires { ⌜ at ≤ length (now s) ⌝ }
     ensures { λ r. ⌜ r ≡ at + length (until sep (drop at (now (s .entry)))) ⌝ }
 {
     let mut i = at;
+    while i + 3 < s.len() {
+        if s[i] == sep {
+            return i;
+        }
+        if s[i + 1] == sep {
+            return i + 1;
+        }
+        if s[i + 2] == sep {
+            return i + 2;
+        }
+        if s[i + 3] == sep {
+            return i + 3;
+        }
+        i += 4;
+    }
     while i < s.len() {
         if s[i] == sep {
             return i;
@@ -204,12 +221,9 @@ pub fn read_text(text: &[u8]) -> Reading
     if end == text.len() {
         return refused(Refusal::Form, 1);
     }
-    let contents = contents_of(line);
-    let check = contents.check;
-    if let Check::Refused(refusal) = check {
-        return refused(refusal, 1);
+    let mut counts = [0usize; MOST_SEGMENTS];
+    match contents_of(line, MOST_SEGMENTS, MOST_ENTRIES, &mut counts) {
+        Contents::Refused(refusal) => refused(refusal, 1),
+        Contents::Counts(count) => read_lines(text, end + 1, &counts[..count]),
     }
-    let count = contents.count;
-    let list = contents.list;
-    read_lines(text, end + 1, &list[..count])
 }

@@ -19,19 +19,17 @@ fn positive_at(line: &[u8], at: usize) -> Number
     let mut i = at;
     while i < line.len() {
         let b = line[i];
-        if b == b' ' {
-            return Number::Value(v as i32, i + 1);
-        }
-        if b < b'0' {
-            return Number::Malformed;
-        }
-        if b'9' < b {
+        let digit = std::num::wrapping_sub_u8(b, b'0');
+        if 9 < digit {
+            if b == b' ' {
+                return Number::Value(v as i32, i + 1);
+            }
             return Number::Malformed;
         }
         if at + 5 <= i {
             return Number::Malformed;
         }
-        v = v * 10 + (b - b'0') as u32;
+        v = v * 10 + digit as u32;
         i += 1;
     }
     Number::Value(v as i32, i + 1)

@@ -30,7 +30,7 @@ line-at-spec =
     (tie.spec
     (λ c. search needs) (λ c. search needs) (λ c. search needs)
     returns
-    (λ c κs. tt)
+    (λ c κs. omega arith)
     (λ c. search needs) (λ c. search needs)
     part-result-end-2
     returns-2)

@@ -4,7 +4,7 @@ use mathlib.Core.Path.{sym, _∙_}
 use native.Mathlib.Omega.{arith}
 use lib.Seq.{length-take-le}
 use Rattle.study.specs.Add.{ours}
-use Rattle.text.proofs.Rest.{text-long, text-empty, text-torn, text-body, text-within, body-refused, body-read}
+use Rattle.text.proofs.Rest.{text-long, text-empty, text-torn, text-body, text-within, body-refused, body-room, body-read}
 use borrow.Author.Needs.{needs}
 use Rattle.text.proofs.read_text.Statement.{statement}
 use Rattle.text.proofs.read_text.Tie as tie
@@ -15,29 +15,48 @@ returns c = c .refused .ensures ∙ text-long ours (c .before .before .before .a
 returns-2 : tie.Need-returns-2
 returns-2 c = c .refused2 .ensures ∙ text-empty ours (c .before .before .before .before .args .text .now) (omega arith) (omega arith)
 
+-- how the places of the code follow one another
+abbrev start-of : tie.After-line-at → tie.Start
+start-of k = k .before .before .before .before
+
+abbrev first-line : tie.After-contents-of → tie.After-line-at
+first-line d = d .before .before .before
+
+abbrev contents : tie.After-known-told2 → tie.After-contents-of
+contents n = n .before .before .before .before
+
+abbrev refusing : tie.After-known-told → tie.After-contents-of
+refusing n = n .before .before .before .before
+
 returns-3 : tie.Need-returns-3
 returns-3 c =
-    c .refused3 .ensures
-    ∙ text-torn ours (c .before .before .before .before .before .before .args .text .now) (omega arith) (c .before .before .line-at .ensures) (search needs) (omega arith)
+    let k = c .before .before in
+    c .refused3 .ensures ∙ text-torn ours (start-of k .args .text .now) (omega arith) (k .line-at .ensures) (search needs) (omega arith)
 
-returns-4 : tie.Need-returns-4
-returns-4 c =
-    let d = c .before .before .before .before in
-    c .refused4 .ensures
-    ∙ body-refused ours (d .contents-of .ensures) _ (c .before .before .check .given .1)
-    ∙ text-body ours (d .before .before .before .before .before .before .args .text .now) (omega arith) (d .before .before .line-at .ensures) (search needs) (search needs)
+-- the counts have their places
+room : tie.Need-array-share-prefix-counts
+room c = body-room ours _ _ (contents c .contents-of .ensures) (c .before .count .given .1)
 
 read-lines-requires : tie.Need-read-lines-requires
 read-lines-requires c κs =
-    let d = c .before .before .before .before in
-    text-within ours (d .before .before .before .before .before .before .args .text .now) (omega arith) (d .before .before .line-at .ensures) (search needs) (search needs)
+    let k = first-line (contents (c .before)) in
+    text-within ours (start-of k .args .text .now) (omega arith) (k .line-at .ensures) (search needs) (search needs)
+
+returns-4 : tie.Need-returns-4
+returns-4 c =
+    let d = refusing (c .before) in
+    let k = first-line d in
+    c .refused4 .ensures
+    ∙ body-refused ours _ _ (d .contents-of .ensures) _ (c .before .before .refusal .given .1)
+    ∙ text-body ours (start-of k .args .text .now) (omega arith) (k .line-at .ensures) (search needs) (search needs)
 
 returns-5 : tie.Need-returns-5
 returns-5 c =
-    let d = c .before .before .before .before .before in
+    let n = c .before .before in
+    let k = first-line (contents n) in
     c .read-lines .ensures
-    ∙ body-read ours (d .contents-of .ensures) _ (c .before .before .before .enum-told .given .1)
-    ∙ text-body ours (d .before .before .before .before .before .before .args .text .now) (omega arith) (d .before .before .line-at .ensures) (search needs) (search needs)
+    ∙ body-read ours _ _ (contents n .contents-of .ensures) (n .before .count .given .1) _
+    ∙ text-body ours (start-of k .args .text .now) (omega arith) (k .line-at .ensures) (search needs) (search needs)
 
 pub read-text-spec : {M : Type 1} → statement M
 read-text-spec =
@@ -47,12 +66,11 @@ read-text-spec =
     (λ c κs. tt) returns-2
     (λ c κs. tt)
     (λ c κs. tt) returns-3
-    (λ c κs. tt)
-    (λ c. c .match .keys1)
-    (λ c κs. tt) returns-4
-    (λ c. c .match .keys2)
+    (λ c. search needs) (λ c κs. search needs)
+    (λ c. search needs) (λ c κs. tt) (λ c. search needs)
     (λ c. search needs)
-    (λ c. c .before .before .before .contents-of .ensures .room)
-    (λ c. sym (length-take-le _ _ (c .before .before .before .before .contents-of .ensures .room)))
+    room
+    (λ c. sym (length-take-le _ _ (room (c .before))))
     read-lines-requires
+    returns-4
     returns-5)

@@ -1,95 +1,119 @@
--- `text::contents::contents_of` meets its contract: the first number, the count of the others, and the entry counts.
+-- `text::contents::contents_of` meets its contract. The loop's invariant: the numbers read so far, and those from here on, are all of the line's.
 -- Assumes nothing.
-use mathlib.Core.Path.{_≡_, sym, _∙_}
+use mathlib.Core.Path.{_≡_, refl, sym, _∙_}
 use mathlib.Core.List.{List}
-use Prim.Native.Nat.{ℕ}
+use Prim.Native.Nat.{ℕ, _+_, _-_}
+use native.Mathlib.Omega.{arith}
+use lib.ListN.{length}
 use lib.IntN.{ℤ}
 use Rattle.text.specs.Numbers.{numberAt}
-use Rattle.text.specs.Parts.{numbersFrom, naturalOf, countOf}
+use Rattle.text.specs.Private.{limits}
 use Rattle.text.specs.declared.numbers.Number.the-variants as N
-use Rattle.text.specs.declared.contents.Count.the-variants as C
-use Rattle.text.specs.declared.contents.Natural.the-variants as L
-use Rattle.text.proofs.Entries.{same-contents, contents-wrong, contents-malformed, contents-negative, contents-other, contents-none, contents-many, contents-counts, natural-is}
+use Rattle.text.proofs.Positions.{next-number}
+use Rattle.text.proofs.Entries.{Reached, contents-wrong, contents-below, reached-first, reached-next, reached-wrong, ended-other, ended-exceeded, ended-none, ended-good, count-fits}
+use borrow.Author.Needs.{needs}
 use Rattle.text.proofs.contents.contents_of.Statement.{statement}
 use Rattle.text.proofs.contents.contents_of.Tie as tie
 
--- the first number
-abbrev line : tie.After-known-told → List ℕ
-line c = c .before .before .before .before .before .args .line .now
+abbrev Inv-loop : tie.InvT-loop
+Inv-loop line segments entries counts₀ first after announced sum₀ at₀ n₀ counts sum at n = (length counts ≡ length counts₀) × Reached (limits segments entries) line announced counts sum at n
 
-abbrev v : tie.After-known-told → ℤ
-v c = c .before .v .given .0 .0
+abbrev μ-loop : tie.MeasureT-loop
+μ-loop line segments entries counts₀ first after announced sum₀ at₀ n₀ counts sum at n = length line + 1 - at
 
-abbrev next : tie.After-known-told → ℕ
-next c = c .before .v .given .0 .1 .0
+-- how the places of the code follow one another
+abbrev start-of : tie.After-number-at Inv-loop μ-loop → tie.Start Inv-loop μ-loop
+start-of c = c .before .before .before
 
-first : (c : tie.After-known-told) → numberAt (line c) 0 ≡ N.Value (v c) (next c)
-first c = sym (c .before .before .before .number-at .ensures) ∙ c .before .v .given .1
+abbrev line : tie.After-known-told Inv-loop μ-loop → List ℕ
+line c = start-of (c .before .before .before) .args .line .now
 
--- the count of the others
-abbrev one : tie.After-known-told2 → tie.After-known-told
-one c = c .before .before .before .before
+abbrev first : tie.After-known-told Inv-loop μ-loop → ℤ
+first c = c .before .first .given .0 .0
 
-others : (c : tie.After-known-told2) → countOf (numbersFrom (line (one c)) (next (one c))) ≡ C.Numbers (c .before .n .given .0 .0)
-others c = sym (c .before .before .before .count-numbers .ensures) ∙ c .before .n .given .1
+-- the number that was read
+read : (c : tie.After-known-told Inv-loop μ-loop) → numberAt (line c) 0 ≡ N.Value (first c) (c .before .first .given .0 .1 .0)
+read c = sym (c .before .before .before .number-at .ensures) ∙ c .before .first .given .1
 
--- the first number as a natural number
-abbrev two : tie.After-known-told3 → tie.After-known-told2
-two c = c .before .before .before .before
+abbrev head : tie.After-known-told2 Inv-loop μ-loop → tie.At-loop Inv-loop μ-loop
+head c = c .before .before .before .before .before
 
-natural : (c : tie.After-known-told3) → naturalOf (v (one (two c))) ≡ L.Value (c .before .first .given .0 .0)
-natural c = natural-is (v (one (two c))) (one (two c) .known-told .given .0 .1) (c .before .before .before .to-natural .ensures) (c .before .first .given .1)
+returns : tie.Need-returns Inv-loop μ-loop
+returns c = contents-wrong _ _ (sym (c .before .before .number-at .ensures) ∙ c .enum-told .given .1)
 
-returns : tie.Need-returns
-returns c =
-    same-contents (contents-wrong (c .before .before .before .before .before .args .line .now) (sym (c .before .before .before .number-at .ensures) ∙ c .before .enum-told .given .1))
-    (c .refused-contents .ensures)
+returns-2 : tie.Need-returns-2 Inv-loop μ-loop
+returns-2 c = contents-below _ _ (read (c .before)) (c .before .known-told .given .0 .1) (c .if1 .taken)
 
-returns-2 : tie.Need-returns-2
-returns-2 c =
-    let k = c .before .before .before .before in
-    same-contents (contents-malformed (line k) (v k) (next k) (first k) (sym (c .before .before .before .count-numbers .ensures) ∙ c .before .enum-told2 .given .1)) (c .refused-contents2 .ensures)
+loop-holds : tie.Need-loop-holds Inv-loop μ-loop
+loop-holds c =
+    let t = c .before in
+    (refl, reached-first _ _ _ (start-of (t .before .before .before) .pre) (read t) (t .known-told .given .0 .1) (c .if1 .left))
 
-returns-3 : tie.Need-returns-3
+returns-3 : tie.Need-returns-3 Inv-loop μ-loop
 returns-3 c =
-    let m = c .before .before .before .before in let k = one m in
-    same-contents
-    (contents-negative (line k) (v k) (next k) (first k) _ (others m)
-    (natural-is (v k) (k .known-told .given .0 .1) (c .before .before .before .to-natural .ensures) (c .before .enum-told3 .given .1)))
-    (c .refused-contents3 .ensures)
+    let n = c .before .before in
+    reached-wrong (n .before .before .loop .inv .1) (n .before .loop-test .taken) (sym (n .number-at2 .ensures) ∙ c .enum-told2 .given .1)
 
-returns-4 : tie.Need-returns-4
-returns-4 c =
-    let f = c .before .before in let k = one (two f) in
-    same-contents (contents-other (line k) (v k) (next k) (first k) _ (others (two f)) _ (natural f) (c .before .if1 .taken)) (c .refused-contents4 .ensures)
+next-read : (c : tie.After-known-told2 Inv-loop μ-loop)
+    → numberAt (line (head c .before .before)) (head c .loop .at) ≡ N.Value (c .before .v .given .0 .0) (c .before .v .given .0 .1 .0)
+next-read c = sym (c .before .before .before .number-at2 .ensures) ∙ c .before .v .given .1
 
-returns-5 : tie.Need-returns-5
+with-count-requires : tie.Need-with-count-requires Inv-loop μ-loop
+with-count-requires c κs = head (c .before) .loop .inv .1 .room
+
+-- the number that a turn read
+abbrev turn : tie.After-slice-known2 Inv-loop μ-loop → tie.After-known-told2 Inv-loop μ-loop
+turn c = c .before .before .before .before
+
+add-n : tie.Need-add-n Inv-loop μ-loop
+add-n c = omega (arith, head (turn c) .loop .inv .1 .few)
+
+loop-less : tie.Need-loop-less Inv-loop μ-loop
+loop-less c = omega (arith, next-number _ (head (turn c) .loop .at) (next-read (turn c)) .0)
+
+loop-again : tie.Need-loop-again Inv-loop μ-loop
+loop-again c =
+    let k = c .before .before .with-count .ensures in
+    (k .size ∙ head (turn c) .loop .inv .0, reached-next (head (turn c) .loop .inv .1) (next-read (turn c)) (turn c .known-told2 .given .0 .1) k)
+
+returns-4 : tie.Need-returns-4 Inv-loop μ-loop
+returns-4 c = ended-other (c .before .before .loop .inv .1) (c .before .loop-test .left) (c .if2 .taken)
+
+returns-5 : tie.Need-returns-5 Inv-loop μ-loop
 returns-5 c =
-    let f = c .before .before .before in let k = one (two f) in
-    same-contents (contents-none (line k) (v k) (next k) (first k) _ (others (two f)) _ (natural f) (c .before .before .if1 .left) (c .before .if2 .taken)) (c .refused-contents5 .ensures)
+    let e = c .before .before in
+    ended-exceeded (e .before .before .loop .inv .1) (e .before .loop-test .left) (e .if2 .left) (c .enum-told3 .given .1)
 
-returns-6 : tie.Need-returns-6
+returns-6 : tie.Need-returns-6 Inv-loop μ-loop
 returns-6 c =
-    let f = c .before .before .before .before in let k = one (two f) in
-    same-contents (contents-many (line k) (v k) (next k) (first k) _ (others (two f)) _ (natural f) (c .before .before .before .if1 .left) (c .before .if3 .taken)) (c .refused-contents6 .ensures)
+    let e = c .before .before .before .before in
+    ended-none (e .before .before .loop .inv .1) (e .before .loop-test .left) (e .if2 .left) (c .before .before .sum .given .1) (c .if3 .taken)
 
-returns-7 : tie.Need-returns-7
+returns-7 : tie.Need-returns-7 Inv-loop μ-loop
 returns-7 c =
-    let f = c .before .before .before .before in let k = one (two f) in
-    same-contents (contents-counts (line k) (v k) (next k) (first k) _ (others (two f)) _ (natural f) (c .before .before .before .if1 .left) (c .before .before .if2 .left) (c .before .if3 .left)) (c .counts-from .ensures)
+    let e = c .before .before .before .before in
+    ended-good (e .before .before .loop .inv .1) (e .before .loop-test .left) (e .if2 .left) (c .before .before .sum .given .1) (c .if3 .left)
 
 pub contents-of-spec : {M : Type 1} → statement M
 contents-of-spec =
     tie.close
     (tie.spec
-    (λ c κs. tt) (λ c. c .match .keys1) (λ c. c .match .keys2)
-    (λ c κs. tt) returns
-    (λ c κs. tt) (λ c. c .match2 .keys1) (λ c. c .match2 .keys2)
-    (λ c κs. tt) returns-2
-    (λ c κs. tt) (λ c. c .match3 .keys1) (λ c. c .match3 .keys2)
-    (λ c κs. tt) returns-3
-    (λ c κs. tt) returns-4
-    (λ c κs. tt) returns-5
-    (λ c κs. tt) returns-6
-    (λ c κs. (c .if3 .left, others (two (c .before .before .before))))
+    Inv-loop μ-loop
+    (λ c κs. tt) (λ c. search needs) (λ c. search needs)
+    returns returns-2
+    (λ c. count-fits {v = first (c .before)} (record { sfits = c .before .known-told .given .0 .1 }) (c .if1 .left))
+    loop-holds
+    (λ c κs. tt) (λ c. search needs) (λ c. search needs) (λ c. c .before .before .before .before .loop .inv .0)
+    returns-3
+    with-count-requires
+    add-n
+    loop-less
+    loop-again
+    (λ c. c .before .before .loop .inv .0)
+    returns-4
+    (λ c. search needs) (λ c. search needs) (λ c. search needs)
+    returns-5
+    (λ c. search needs)
+    returns-6
+    (λ c. search needs)
     returns-7)

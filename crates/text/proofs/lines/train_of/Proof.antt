@@ -13,9 +13,12 @@ use Rattle.text.proofs.Fields.{Progress, start, step, field-missing, fi
 use Rattle.text.proofs.lines.train_of.Statement.{statement}
 use Rattle.text.proofs.lines.train_of.Tie as tie
 
+abbrev start-of : tie.After-number-at → tie.Start
+start-of c = c .before .before
+
 -- how far the line is read after each field
 abbrev after-row : tie.After-known-told → Progress
-after-row c = step (start (c .before .before .before .before .before .args .line .now)) (c .before .before .before .number-at .ensures) (c .before .row .given .1) (c .known-told .given .0 .1)
+after-row c = step (start (start-of (c .before .before .before) .args .line .now)) (c .before .before .before .number-at .ensures) (c .before .row .given .1) (c .known-told .given .0 .1)
 
 abbrev after-speed : tie.After-known-told2 → Progress
 after-speed c = step (after-row (c .before .before .before .before)) (c .before .before .before .number-at2 .ensures) (c .before .speed .given .1) (c .known-told2 .given .0 .1)
@@ -47,7 +50,7 @@ train-of-spec =
     tie.close
     (tie.spec
     (λ c κs. tt) (λ c. c .match .keys1) (λ c. c .match .keys2)
-    (λ c. missing (start (c .before .before .before .before .args .line .now)) (c .before .before .number-at .ensures) (c .enum-told .given .1) refl)
+    (λ c. missing (start (start-of (c .before .before) .args .line .now)) (c .before .before .number-at .ensures) (c .enum-told .given .1) refl)
     (λ c κs. tt) (λ c. c .match2 .keys1) (λ c. c .match2 .keys2)
     (λ c. missing (after-row (c .before .before .before)) (c .before .before .number-at2 .ensures) (c .enum-told2 .given .1) refl)
     (λ c κs. tt) (λ c. c .match3 .keys1) (λ c. c .match3 .keys2)

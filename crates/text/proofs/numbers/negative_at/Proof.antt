@@ -16,22 +16,26 @@ returns-2 c =
     let s = c .before .before .before .before in
     below-low (s .args .line .now) (s .args .at) (omega arith) (s .pre .1) (omega arith) (c .if2 .taken)
 
+-- where the digits after the minus were read
+abbrev start-of : tie.After-positive-at → tie.Start
+start-of a = a .before .before .before .before .before
+
 returns-3 : tie.Need-returns-3
 returns-3 c =
     let a = c .before .before in
-    let s = a .before .before .before .before .before in
+    let s = start-of a in
     below-none (s .args .line .now) (s .args .at) (omega arith) (s .pre .1) (omega arith) (omega arith) (a .positive-at .ensures) (c .enum-told .given .1)
 
 sub-t11 : tie.Need-sub-t11
 sub-t11 c =
     let a = c .before .before .before in
-    let s = a .before .before .before .before .before in
+    let s = start-of a in
     below-fits (s .args .line .now) (s .args .at) (omega arith) (s .pre .1) (omega arith) (omega arith) (a .positive-at .ensures) (c .before .v .given .1) (search needs)
 
 returns-4 : tie.Need-returns-4
 returns-4 c =
     let a = c .before .before .before in
-    let s = a .before .before .before .before .before in
+    let s = start-of a in
     below-some (s .args .line .now) (s .args .at) (omega arith) (s .pre .1) (omega arith) (omega arith) (a .positive-at .ensures) (c .before .v .given .1) (search needs)
 
 pub negative-at-spec : {M : Type 1} → statement M

@@ -9,9 +9,12 @@ use Rattle.text.proofs.numbers.number_at.Tie as tie
 returns : tie.Need-returns
 returns c = number-past (c .before .before .args .line .now) (c .before .before .args .at) (c .if1 .taken)
 
+abbrev start-of : tie.Else2 → tie.Start
+start-of c = c .before .before .before .before
+
 returns-5 : tie.Need-returns-5
 returns-5 c =
-    let s = c .before .before .before .before .before .before in
+    let s = start-of (c .before .before) in
     number-low (s .args .line .now) (s .args .at) (omega arith) (omega arith) (search needs)
 
 pub number-at-spec : {M : Type 1} → statement M

@@ -1,27 +1,26 @@
--- What the parts of the reading ensure: the enums' cases, and what is read from a position on. Only private contracts cite it.
+-- What private contracts alone cite: the enums' cases, and what is read from a position on.
 -- Assumes nothing.
 use mathlib.Core.Path.{_≡_}
 use Prim.Native.Nat.{ℕ, _≤_, _<_}
-use mathlib.Core.List.{List, [], _∷_}
+use mathlib.Core.List.{List, [], _∷_, _++_}
 use mathlib.Core.Bool.{cond}
 use mathlib.Core.Option.{Option, none, some}
 use lib.ListN.{length, take, drop}
 use lib.Dec.{leb}
-use lib.IntN.{ℤ, pos, negsuc}
+use lib.IntN.{ℤ}
 use Rattle.steps.specs.declared.Refusal.{Refusal}
 use Rattle.steps.specs.declared.Refusal.the-variants.{Form, Contents}
 use Rattle.steps.specs.declared.Check.{Check}
 use Rattle.steps.specs.declared.Check.the-variants.{Accepted, Refused}
 use Rattle.study.specs.Add.{Limits, ours, segmentAnswer, trainAnswer}
 use Rattle.text.specs.Numbers.{numbersOf}
-use Rattle.text.specs.Contents.{Read, refused, counts, countsIn, inAll}
+use Rattle.text.specs.Contents.{Read, refused, counts, countsIn, sumOf, between, inAll}
 use Rattle.text.specs.Lines.{segmentOf, trainOf}
 use Rattle.text.specs.Text.{Line, ended, unended, linesOf}
-use Rattle.text.specs.declared.contents.Natural.{Natural}
-use Rattle.text.specs.declared.contents.Natural.the-variants as L
-use Rattle.text.specs.declared.contents.Count.{Count}
-use Rattle.text.specs.declared.contents.Count.the-variants as C
+use Rattle.text.specs.declared.contents.Sum.{Sum}
+use Rattle.text.specs.declared.contents.Sum.the-variants as U
 use Rattle.text.specs.declared.contents.Contents as contents
+use Rattle.text.specs.declared.contents.Contents.the-variants as C
 use Rattle.text.specs.declared.lines.SegmentLine.{SegmentLine}
 use Rattle.text.specs.declared.lines.SegmentLine.the-variants as S
 use Rattle.text.specs.declared.lines.TrainLine.{TrainLine}
@@ -39,27 +38,35 @@ numbersFrom line at = cond (leb at (length line)) (numbersOf (drop at line)) (so
 
 -- ---- the contents
 
-abbrev pub naturalOf : ℤ → Natural
-naturalOf (pos n) = L.Value n
-naturalOf (negsuc n) = L.Negative
+-- the limits that a call hands over
+abbrev pub limits : ℕ → ℕ → Limits
+limits segments entries = record { segments = segments; entries = entries }
 
-unfoldable pub countOf : Option (List ℤ) → Count
-countOf none = C.Malformed
-countOf (some vs) = C.Numbers (length vs)
+-- what entry counts give, all of the right form and as many as announced
+abbrev pub countsRead : Limits → List ℤ → Read
+countsRead l vs = cond (between 1 (l .segments) (length vs)) (inAll l (countsIn (l .entries) vs)) (refused Contents)
 
--- the entry counts alone, all of the right form
-abbrev pub countsFrom : Limits → Option (List ℤ) → Read
-countsFrom l none = refused Contents
-countsFrom l (some vs) = inAll l (countsIn (l .entries) vs)
+-- the numbers vs are entry counts in range, held at the front of the list, of that sum
+pub record Held (l : Limits) (vs : List ℤ) (list : List ℕ) (sum : ℕ) : Type 0 where
+  pub few : length vs ≤ l .segments
+  pub are : countsIn (l .entries) vs ≡ some (take (length vs) list)
+  pub sum-is : sum ≡ sumOf (take (length vs) list)
+  pub within : sum ≤ l .entries
 
-abbrev pub readAs : Check → List ℕ → Read
-readAs Accepted cs = counts cs
-readAs (Refused r) cs = refused r
+-- they are held, or they are out of range whatever follows them
+abbrev pub Summed : Limits → List ℤ → List ℕ → Sum → Type 0
+Summed l vs list (U.Within sum) = Held l vs list sum
+Summed l vs list U.Exceeded = (us : List ℤ) → countsRead l (vs ++ us) ≡ refused Contents
 
--- the struct's counts are the first of its list
-pub record ContentsRead (x : Read) (r : contents.Contents) : Type 0 where
-  pub is : readAs (r .check) (take (r .count) (r .list)) ≡ x
-  pub room : r .count ≤ length (r .list)
+-- one more after n of them
+pub record Counted (l : Limits) (n : ℕ) (v : ℤ) (before : List ℕ) (from : Sum) (after : List ℕ) (to : Sum) : Type 0 where
+  pub size : length after ≡ length before
+  pub next : (vs : List ℤ) → length vs ≡ n → Summed l vs before from → Summed l (vs ++ (v ∷ [])) after to
+
+-- the counts are the first of the list
+abbrev pub ContentsRead : Read → List ℕ → contents.Contents → Type 0
+ContentsRead x list (C.Counts n) = (n ≤ length list) × (x ≡ counts (take n list))
+ContentsRead x list (C.Refused r) = x ≡ refused r
 
 -- ---- the line at a position of the text
 
