@@ -5,10 +5,10 @@ use mathlib.Core.List.{List}
 use Prim.Native.Nat.{ℕ, _≤_}
 use lib.IntN.{ℤ}
 use lib.ListN.{length}
-use Rattle.steps.specs.declared.Period.{Period}
-use Rattle.steps.specs.declared.Period.the-variants.{Day, Night}
-use Rattle.steps.specs.declared.Check.the-variants.{Accepted}
-use Rattle.steps.specs.Refusal.{checkNumber}
+use Rattle.figures.specs.declared.Period.{Period}
+use Rattle.figures.specs.declared.Period.the-variants.{Day, Night}
+use Rattle.figures.specs.declared.Check.the-variants.{Accepted}
+use Rattle.figures.specs.Refusal.{checkNumber}
 use Rattle.study.specs.declared.request.PeriodResult.{PeriodResult}
 use Rattle.study.specs.declared.request.Answer.{Answer}
 use Rattle.study.specs.Add.{ours}

@@ -8,9 +8,9 @@ use lib.IntN.{ℤ, pos}
 use lib.ListN.{length}
 use Rattle.decibel.specs.declared.Level.{Level}
 use Rattle.decibel.specs.declared.Level.the-variants.{Silent, Figure}
-use Rattle.steps.specs.declared.Check.{Check}
-use Rattle.steps.specs.declared.Check.the-variants.{Accepted, Refused}
-use Rattle.steps.specs.Refusal.{checkNumber}
+use Rattle.figures.specs.declared.Check.{Check}
+use Rattle.figures.specs.declared.Check.the-variants.{Accepted, Refused}
+use Rattle.figures.specs.Refusal.{checkNumber}
 use Rattle.study.specs.declared.request.PeriodResult.{PeriodResult}
 use Rattle.study.specs.declared.request.Answer.{Answer}
 use Rattle.study.specs.Add.{ours}

@@ -2,9 +2,9 @@
 ghost use mathlib.Core.Path.{_≡_};
 ghost use Rattle.railnoise_c.specs.Exported.{exportedPeriod, exportedLine, exported, Called};
 use decibel::Level;
-use steps::Check;
-use study::request::Answer;
-use study::request::PeriodResult;
+use figures::Check;
+use study::Answer;
+use study::PeriodResult;
 
 // `railnoise_period`: the level in tenths, 0 when silent.
 #[repr(C)]
@@ -58,7 +58,7 @@ fn answer_of(line: usize, answer: Answer) -> RailnoiseAnswer
     ensures { λ r. ⌜ r ≡ exported line answer ⌝ }
 {
     let check = answer.check;
-    let refusal = steps::check_number(check);
+    let refusal = figures::check_number(check);
     let at = line_of(line);
     RailnoiseAnswer {
         refusal: refusal,
@@ -74,10 +74,10 @@ pub extern "C" fn railnoise_levels(text: &[u8], cells: &mut [i32]) -> RailnoiseA
     ensures { λ r. ⌜ Called (now (text .entry)) (now (cells .entry)) (now (cells .exit)) r ⌝ }
 {
     let reading = text::read_text(text);
-    let answer = study::request::levels(reading.study, cells);
+    let answer = study::levels(reading.study, cells);
     let read = reading.check;
     let asked = answer.check;
-    let check = steps::first_refused(read, asked);
+    let check = figures::first_refused(read, asked);
     let day = answer.day;
     let night = answer.night;
     answer_of(reading.line, Answer { check, day, night })

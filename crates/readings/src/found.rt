@@ -10,14 +10,14 @@ use crate::number::slant;
 use crate::number::sum;
 use crate::number::whole;
 use decibel::Level;
-use steps::Check;
-use steps::Period;
-use steps::Segment;
-use steps::Train;
-use steps::explain::Breakdown;
-use steps::explain::TrainBreakdown;
+use figures::Check;
+use figures::Period;
+use figures::Segment;
+use figures::Train;
+use figures::explain::Breakdown;
+use figures::explain::TrainBreakdown;
 use study::Study;
-use study::request::PeriodResult;
+use study::PeriodResult;
 
 fn segment_from(f: &[i32; 256]) -> Segment {
     Segment {
@@ -51,14 +51,14 @@ fn store(values: [i32; 6], first: usize, cells: &mut [i32; 256])
 
 fn breakdown(s: Segment) -> Breakdown {
     let t = decibel::tables();
-    steps::explain::breakdown_of(&t, s)
+    figures::explain::breakdown_of(&t, s)
 }
 
 // The steps of a segment, and its lengths. Answers whether the line has 14 numbers and the segment is accepted; a refused one would
 // read as 0 throughout.
 pub(crate) fn segment(n: usize, cells: &mut [i32; 256]) -> bool {
     let s = segment_from(cells);
-    let check = steps::checks::segment_check(s);
+    let check = figures::checks::segment_check(s);
     let p = breakdown(s);
     let mark = flag(p.close);
     let direct = slant(s.distance, s.height);
@@ -73,7 +73,7 @@ pub(crate) fn segment(n: usize, cells: &mut [i32; 256]) -> bool {
         206,
         cells,
     );
-    (n == 14) & (steps::check_number(check) == 0)
+    (n == 14) & (figures::check_number(check) == 0)
 }
 
 fn train_from(f: &[i32; 256]) -> Train {
@@ -88,13 +88,13 @@ fn train_from(f: &[i32; 256]) -> Train {
 
 fn emission(train: Train, period: Period) -> TrainBreakdown {
     let t = decibel::tables();
-    steps::explain::train_breakdown_of(&t, train, period)
+    figures::explain::train_breakdown_of(&t, train, period)
 }
 
 // The steps of a train. Answers whether the line has 5 numbers and the train is accepted.
 pub(crate) fn train(n: usize, cells: &mut [i32; 256]) -> bool {
     let train = train_from(cells);
-    let check = steps::checks::train_check(train);
+    let check = figures::checks::train_check(train);
     let day = emission(train, Period::Day);
     let night = emission(train, Period::Night);
     let trains = sum(day.trains, 481);
@@ -110,7 +110,7 @@ pub(crate) fn train(n: usize, cells: &mut [i32; 256]) -> bool {
         212,
         cells,
     );
-    (n == 5) & (steps::check_number(check) == 0)
+    (n == 5) & (figures::check_number(check) == 0)
 }
 
 fn cell_of(level: Level) -> i32 {
@@ -175,7 +175,7 @@ fn period(result: PeriodResult, first: usize, cells: &mut [i32; 256])
 
 // The levels of a study's entries in the first cells, and both periods' results.
 fn results(study: Study, cells: &mut [i32; 256]) {
-    let answer = study::request::levels(study, cells);
+    let answer = study::levels(study, cells);
     period(answer.day, 220, cells);
     period(answer.night, 230, cells);
 }
@@ -184,7 +184,7 @@ fn results(study: Study, cells: &mut [i32; 256]) {
 pub(crate) fn text(n: usize, body: &[u8], cells: &mut [i32; 256]) -> bool {
     let reading = text::read_text(body);
     let check = reading.check;
-    let number = signed(steps::check_number(check) as u64);
+    let number = signed(figures::check_number(check) as u64);
     let line = signed(reading.line as u64);
     store([number, line, 0, 0, 0, 0], 240, cells);
     results(reading.study, cells);
@@ -224,18 +224,18 @@ fn with_trains(start: Study, train: Train, n: usize) -> Study {
 }
 
 fn number_of(check: Check) -> i32 {
-    signed(steps::check_number(check) as u64)
+    signed(figures::check_number(check) as u64)
 }
 
 // The refusal of the request for levels, with 3 cells or with all.
 fn request(study: Study, room: i32, cells: &mut [i32; 256]) -> i32 {
     if room == 3 {
         let mut few = [0i32; 3];
-        let answer = study::request::levels(study, &mut few);
+        let answer = study::levels(study, &mut few);
         let check = answer.check;
         return number_of(check);
     }
-    let answer = study::request::levels(study, cells);
+    let answer = study::levels(study, cells);
     let check = answer.check;
     number_of(check)
 }

@@ -11,7 +11,7 @@ use mir.Syntax.{w32}
 use mir.Val.{SFits}
 use Rattle.decibel.specs.declared.Level.{Level}
 use Rattle.decibel.specs.declared.Level.the-variants.{Silent, Figure}
-use Rattle.steps.specs.declared.Refusal.{Refusal}
+use Rattle.figures.specs.declared.Refusal.{Refusal}
 use Rattle.study.specs.declared.request.PeriodResult.{PeriodResult}
 use Rattle.writing.specs.Bytes.{ascii, digitsOf, figureOf}
 use Rattle.writing.specs.Pages.{Put}

@@ -9,9 +9,9 @@ ghost use Rattle.report.specs.Bytes.{level as Bytes·level, verdict};
 ghost use Rattle.report.specs.Report.{resultParts, periodParts, answerLines, refusalLine, planIn, outcomeOf, reportRoom, Reported};
 ghost use Rattle.report.specs.Private.{PutWithin};
 use decibel::Level;
-use steps::Check;
-use steps::Refusal;
-use study::request::PeriodResult;
+use figures::Check;
+use figures::Refusal;
+use study::PeriodResult;
 
 // How many bytes of the report and of the notice were written.
 pub struct Written {
@@ -33,10 +33,10 @@ fn outcome_of(text: &[u8]) -> Outcome
     let reading = text::read_text(text);
     let mut cells = [0i32; 192];
     let study = reading.study;
-    let answer = study::request::levels(study, &mut cells);
+    let answer = study::levels(study, &mut cells);
     let read = reading.check;
     let answered = answer.check;
-    let check = steps::first_refused(read, answered);
+    let check = figures::first_refused(read, answered);
     let day = answer.day;
     let night = answer.night;
     Outcome {

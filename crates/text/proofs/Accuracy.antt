@@ -6,8 +6,8 @@ use mathlib.Core.List.{List}
 use Prim.Native.Nat.{ℕ, _≤_}
 use lib.IntN.{ℤ}
 use lib.ListN.{length}
-use Rattle.steps.specs.declared.Period.{Period}
-use Rattle.steps.specs.declared.Check.the-variants.{Accepted}
+use Rattle.figures.specs.declared.Period.{Period}
+use Rattle.figures.specs.declared.Check.the-variants.{Accepted}
 use Rattle.study.specs.declared.Study.{Study}
 use Rattle.study.specs.declared.request.Answer.{Answer}
 use Rattle.study.specs.Add.{Limits}

@@ -15,7 +15,7 @@ use mir.Syntax.{w32, w64}
 use mir.Val.{SFits, Fits}
 use mir.Facts.{fits-natAbs}
 use borrow.Author.Tests.{eq-eqb, ne-eqb, le-leb, lt-leb, ltb-true}
-use Rattle.steps.specs.declared.Refusal.the-variants as R
+use Rattle.figures.specs.declared.Refusal.the-variants as R
 use Rattle.study.specs.Add.{Limits}
 use Rattle.text.specs.Numbers.{front, numbersOf, numberAt}
 use Rattle.text.specs.Contents.{refused, counts, entryCount, countsIn, sumOf, between, inAll, contentsIn, contentsOf}

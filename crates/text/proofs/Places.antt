@@ -8,12 +8,12 @@ use native.Mathlib.Omega.{arith}
 use lib.ListN.{length, drop, length-drop, drop-of-length-le}
 use lib.Seq.{drop-drop}
 use borrow.Author.Tests.{lt-ltb, le-ltb}
-use Rattle.steps.specs.declared.Refusal.{Refusal}
-use Rattle.steps.specs.declared.Refusal.the-variants as R
-use Rattle.steps.specs.declared.Check.{Check}
-use Rattle.steps.specs.declared.Check.the-variants.{Accepted, Refused}
-use Rattle.steps.specs.declared.Segment.{Segment}
-use Rattle.steps.specs.declared.Train.{Train}
+use Rattle.figures.specs.declared.Refusal.{Refusal}
+use Rattle.figures.specs.declared.Refusal.the-variants as R
+use Rattle.figures.specs.declared.Check.{Check}
+use Rattle.figures.specs.declared.Check.the-variants.{Accepted, Refused}
+use Rattle.figures.specs.declared.Segment.{Segment}
+use Rattle.figures.specs.declared.Train.{Train}
 use Rattle.study.specs.Add.{ours}
 use Rattle.text.specs.Bytes.{until, split}
 use Rattle.text.specs.Lines.{segmentOf, trainOf}

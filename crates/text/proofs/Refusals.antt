@@ -10,14 +10,16 @@ use lib.ListN.{length}
 use lib.Dec.{leb}
 use lib.IntN.{ℤ, pos, negsuc}
 use borrow.Author.Tests.{ne-eqb, lt-leb, leb-true}
-use Rattle.steps.specs.declared.Segment.{Segment}
-use Rattle.steps.specs.declared.Train.{Train}
-use Rattle.steps.specs.declared.Refusal.{Refusal}
-use Rattle.steps.specs.declared.Refusal.the-variants as R
-use Rattle.steps.specs.declared.Check.{Check}
-use Rattle.steps.specs.declared.Check.the-variants.{Accepted, Refused}
-use Rattle.steps.specs.Refusal.{numberOf, checkNumber, unless, firstRefused}
-use Rattle.steps.specs.Rules.{segmentCheck, trainCheck, distanceKept, heightsKept, softKept, anglesKept, screenKept, shadowKept, readingsKept, rowKept, speedKept, vehiclesKept, trainsKept}
+use Rattle.figures.specs.declared.Segment.{Segment}
+use Rattle.figures.specs.declared.Train.{Train}
+use Rattle.figures.specs.declared.Refusal.{Refusal}
+use Rattle.figures.specs.declared.Refusal.the-variants as R
+use Rattle.figures.specs.declared.Check.{Check}
+use Rattle.figures.specs.declared.Check.the-variants.{Accepted, Refused}
+use Rattle.figures.specs.Refusal.{numberOf, checkNumber, unless, firstRefused}
+use Rattle.figures.specs.Rules.{trainCheck, distanceKept, heightsKept, softKept, anglesKept, screenKept, rangesThen, readingsKept, rowKept, speedKept, vehiclesKept, trainsKept}
+use Rattle.propagation.specs.Check.{segmentCheck}
+use Rattle.propagation.specs.Screen.{shadowKept}
 use Rattle.study.specs.declared.Study.{Study}
 use Rattle.study.specs.declared.Added.{Added}
 use Rattle.study.specs.Plan.{emptyStudy}
@@ -44,7 +46,7 @@ unless-own true r rest h o = o
 unless-own false r rest h o = h
 
 segment-own : (s : Segment) → Own (segmentCheck s)
-unfolding segmentCheck numberOf checkNumber
+unfolding segmentCheck rangesThen numberOf checkNumber
 segment-own s =
     unless-own (distanceKept s) R.Distance _ (omega arith) (unless-own (heightsKept s) R.Height _ (omega arith) (unless-own (softKept s) R.Ground _ (omega arith)
     (unless-own (anglesKept s) R.Angle _ (omega arith) (unless-own (screenKept s) R.Screen _ (omega arith) (unless-own (shadowKept s) R.Shadow _ (omega arith)

@@ -9,10 +9,10 @@ use native.Mathlib.Nat.{sub-zero}
 use lib.ListN.{length, take, set, getD, drop, drop-of-length-le}
 use lib.Seq.{drop-cons}
 use borrow.Author.Tests.{le-leb, lt-leb}
-use Rattle.steps.specs.declared.Refusal.{Refusal}
-use Rattle.steps.specs.declared.Refusal.the-variants as R
-use Rattle.steps.specs.declared.Check.{Check}
-use Rattle.steps.specs.declared.Check.the-variants.{Accepted, Refused}
+use Rattle.figures.specs.declared.Refusal.{Refusal}
+use Rattle.figures.specs.declared.Refusal.the-variants as R
+use Rattle.figures.specs.declared.Check.{Check}
+use Rattle.figures.specs.declared.Check.the-variants.{Accepted, Refused}
 use Rattle.study.specs.declared.Study.{Study}
 use Rattle.study.specs.Plan.{emptyStudy}
 use Rattle.study.specs.Add.{Limits, answer, withSegment, withTrain, addSegment, addTrain}

@@ -8,10 +8,10 @@ use mathlib.Core.Option.{Option, none, some}
 use lib.ListN.{length, take, drop}
 use lib.Dec.{leb}
 use lib.IntN.{ℤ}
-use Rattle.steps.specs.declared.Refusal.{Refusal}
-use Rattle.steps.specs.declared.Refusal.the-variants.{Form, Contents}
-use Rattle.steps.specs.declared.Check.{Check}
-use Rattle.steps.specs.declared.Check.the-variants.{Accepted, Refused}
+use Rattle.figures.specs.declared.Refusal.{Refusal}
+use Rattle.figures.specs.declared.Refusal.the-variants.{Form, Contents}
+use Rattle.figures.specs.declared.Check.{Check}
+use Rattle.figures.specs.declared.Check.the-variants.{Accepted, Refused}
 use Rattle.study.specs.Add.{Limits, ours, segmentAnswer, trainAnswer}
 use Rattle.text.specs.Numbers.{numbersOf}
 use Rattle.text.specs.Contents.{Read, refused, counts, countsIn, sumOf, between, inAll}

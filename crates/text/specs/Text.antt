@@ -5,10 +5,10 @@ use mathlib.Core.List.{List, [], _∷_}
 use mathlib.Core.Bool.{cond}
 use lib.ListN.{length}
 use lib.Dec.{leb}
-use Rattle.steps.specs.declared.Refusal.{Refusal}
-use Rattle.steps.specs.declared.Refusal.the-variants.{Form, Contents}
-use Rattle.steps.specs.declared.Check.{Check}
-use Rattle.steps.specs.declared.Check.the-variants.{Accepted, Refused}
+use Rattle.figures.specs.declared.Refusal.{Refusal}
+use Rattle.figures.specs.declared.Refusal.the-variants.{Form, Contents}
+use Rattle.figures.specs.declared.Check.{Check}
+use Rattle.figures.specs.declared.Check.the-variants.{Accepted, Refused}
 use Rattle.study.specs.declared.Study.{Study}
 use Rattle.study.specs.declared.Added.{Added}
 use Rattle.study.specs.Plan.{emptyStudy}

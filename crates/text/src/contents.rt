@@ -5,7 +5,7 @@ ghost use Rattle.text.specs.Contents.{contentsOf};
 ghost use Rattle.text.specs.Private.{limits, Counted, ContentsRead};
 use crate::numbers::Number;
 use crate::numbers::number_at;
-use steps::Refusal;
+use figures::Refusal;
 
 // The sum of the entry counts so far, or that they are out of range.
 enum Sum {

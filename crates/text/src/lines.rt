@@ -3,8 +3,8 @@ ghost use mathlib.Core.Path.{_≡_};
 ghost use Rattle.text.specs.Lines.{segmentOf, trainOf};
 use crate::numbers::Number;
 use crate::numbers::number_at;
-use steps::Segment;
-use steps::Train;
+use figures::Segment;
+use figures::Train;
 
 pub(crate) enum SegmentLine {
     Fields(Segment),

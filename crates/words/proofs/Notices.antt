@@ -5,9 +5,9 @@ use mathlib.Core.List.{List, [], _∷_, append-nil, flatten}
 use Prim.Native.Nat.{ℕ, _<_, _≤_, _^_}
 use native.Mathlib.Omega.{arith}
 use lib.ListN.{length, length-append}
-use Rattle.steps.specs.declared.Refusal.{Refusal}
-use Rattle.steps.specs.declared.Refusal.the-variants.{Distance, Height, Ground, Angle, Screen, Shadow, Reading, Row, Speed, Vehicles, Trains, Form, Contents, NoSegment, SegmentLimit, EntryLimit, NoEntry, FewCells}
-use Rattle.steps.specs.Refusal.{numberOf}
+use Rattle.figures.specs.declared.Refusal.{Refusal}
+use Rattle.figures.specs.declared.Refusal.the-variants.{Distance, Height, Ground, Angle, Screen, Shadow, Reading, Row, Speed, Vehicles, Trains, Form, Contents, NoSegment, SegmentLimit, EntryLimit, NoEntry, FewCells}
+use Rattle.figures.specs.Refusal.{numberOf}
 use Rattle.writing.specs.Bytes.{ascii, digitsOf}
 use Rattle.writing.specs.Pages.{Put, PutEach}
 use Rattle.writing.proofs.Digits.{digits-length}

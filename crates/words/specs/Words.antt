@@ -2,9 +2,9 @@
 -- Assumes nothing.
 use mathlib.Core.List.{List, [], _∷_, flatten}
 use Prim.Native.Nat.{ℕ}
-use Rattle.steps.specs.declared.Refusal.{Refusal}
-use Rattle.steps.specs.declared.Refusal.the-variants.{Distance, Height, Ground, Angle, Screen, Shadow, Reading, Row, Speed, Vehicles, Trains, Form, Contents, NoSegment, SegmentLimit, EntryLimit, NoEntry, FewCells}
-use Rattle.steps.specs.Refusal.{numberOf}
+use Rattle.figures.specs.declared.Refusal.{Refusal}
+use Rattle.figures.specs.declared.Refusal.the-variants.{Distance, Height, Ground, Angle, Screen, Shadow, Reading, Row, Speed, Vehicles, Trains, Form, Contents, NoSegment, SegmentLimit, EntryLimit, NoEntry, FewCells}
+use Rattle.figures.specs.Refusal.{numberOf}
 use Rattle.writing.specs.Bytes.{ascii, digitsOf}
 
 -- the rule that was not kept

@@ -1,13 +1,13 @@
 // Refusals in words: the notice that tells a planner which figure to mend.
 ghost use Rattle.writing.specs.Pages.{Put};
 ghost use Rattle.words.specs.Words.{wordsOf, refusedOf, noticeOf};
-use steps::Refusal;
+use figures::Refusal;
 
 // What was refused at which line of the text, as `refused 9 line 3`.
 pub fn put_refused(out: &mut [u8], at: usize, refusal: Refusal, line: usize) -> usize
     ensures { λ r. ⌜ Put (now (out .entry)) at (refusedOf refusal line) (now (out .exit)) r ⌝ }
 {
-    let number = steps::number(refusal);
+    let number = figures::number(refusal);
     let mut word = [0u8; 36];
     let named = writing::put(&mut word, 0, b"refused ");
     let numbered = writing::put_decimal(&mut word, named, number as u64);
