@@ -15,7 +15,7 @@ use Rattle.study.specs.Add.{ours}
 use Rattle.study.specs.Plan.{Plan, planOf}
 use Rattle.study.specs.Levels.{ownMarks}
 use Rattle.study.specs.Request.{cellsNeeded, levelsCheck, answerBy, Answered, resultIn}
-use Rattle.study.specs.Accuracy.{AccurateToBare}
+use Rattle.study.specs.Accuracy.{AccurateToBare, demanded}
 use Rattle.study.proofs.Runs.{run-accepted}
 use Rattle.study.proofs.Demand3.{request-answered, ours-fit}
 use Rattle.text.specs.Text.{readText}
@@ -28,7 +28,7 @@ use Rattle.railnoise_c.specs.Exported.{isSilent, exportedPeriod, exporte
 use Rattle.railnoise_c.specs.Accuracy.{planIn, periodIn, PeriodAccurate, AnswerAccurate, CallAccurate}
 
 -- what C gets of a period's result is as accurate as the result
-exported-accurate : (p : Period) (plan : Plan) (x : PeriodResult) → AccurateToBare p plan x → PeriodAccurate p plan (exportedPeriod x)
+exported-accurate : (p : Period) (plan : Plan) (x : PeriodResult) → AccurateToBare demanded p plan x → PeriodAccurate p plan (exportedPeriod x)
 unfolding exportedPeriod
 exported-accurate p plan x a =
     let level = a .accurate .level in

@@ -3,7 +3,7 @@
 use mathlib.Core.Path.{_≡_}
 use mathlib.Core.Bool.{true, false}
 use mathlib.Core.List.{List}
-use Prim.Native.Nat.{ℕ, _≤_}
+use Prim.Native.Nat.{ℕ, _*_, _-_, _≤_}
 use lib.IntN.{ℤ, pos, _+ℤ_}
 use lib.ListN.{length}
 use lib.Signed.{_≤ℤ_, _<ℤ_}
@@ -14,8 +14,9 @@ use Rattle.figures.specs.declared.Check.the-variants.{Accepted}
 use Rattle.study.specs.Plan.{Plan}
 use Rattle.study.specs.Add.{ours}
 use Rattle.study.specs.Run.{accepted}
+use Rattle.study.specs.Levels.{limitOf}
 use Rattle.study.specs.Request.{cellsNeeded}
-use Rattle.study.specs.Accuracy.{hasTrains, Bare, alwaysFrom, neverBelow}
+use Rattle.study.specs.Accuracy.{hasTrains, Bare, demanded}
 use Rattle.text.specs.Text.{readText}
 use Rattle.text.specs.Additions.{additionsOf}
 use Rattle.railnoise_c.specs.declared.RailnoisePeriod.{RailnoisePeriod}
@@ -38,10 +39,10 @@ pub record PeriodAccurate (p : Period) (plan : Plan) (r : RailnoisePeriod) : Typ
   pub is : Bare p plan bare
   pub only : (b : ℤ) → Bare p plan b → b ≡ bare
   pub figure : r .silent ≡ false
-  pub above : micro (r .level) ≤ℤ (bare +ℤ pos 460000)
-  pub below : bare ≤ℤ (micro (r .level) +ℤ pos 460000)
-  pub always : alwaysFrom p ≤ℤ bare → r .met ≡ true
-  pub never : bare <ℤ neverBelow p → r .met ≡ false
+  pub above : micro (r .level) ≤ℤ (bare +ℤ pos (demanded .above))
+  pub below : bare ≤ℤ (micro (r .level) +ℤ pos (demanded .below))
+  pub always : pos (1000000 * limitOf p - demanded .always) ≤ℤ bare → r .met ≡ true
+  pub never : bare <ℤ pos (1000000 * limitOf p - demanded .never) → r .met ≡ false
 
 -- no refusal and no line at fault, and each period in which an entry has trains is accurate
 pub record AnswerAccurate (plan : Plan) (r : RailnoiseAnswer) : Type 0 where

@@ -9,6 +9,7 @@ use native.Mathlib.Omega.{arith}
 use lib.IntN.{ℤ}
 use lib.ListN.{length}
 use borrow.Author.Tests.{lt-ltb, le-leb}
+use Rattle.energy.proofs.Accurate.{accurate, accurate-sharp}
 use Rattle.figures.specs.declared.Period.{Period}
 use Rattle.figures.specs.declared.Period.the-variants.{Day, Night}
 use Rattle.figures.specs.declared.Check.{Check}
@@ -16,15 +17,15 @@ use Rattle.figures.specs.declared.Check.the-variants.{Accepted}
 use Rattle.figures.specs.Refusal.{unless}
 use Rattle.study.specs.declared.Entry.{Entry}
 use Rattle.study.specs.declared.request.Answer.{Answer}
-use Rattle.study.specs.Plan.{Plan, planOf}
+use Rattle.study.specs.Plan.{Plan}
 use Rattle.study.specs.Add.{Limits, ours}
 use Rattle.study.specs.Run.{Addition, run, accepted, LimitsFit}
 use Rattle.study.specs.Levels.{Marks, resultBy}
-use Rattle.study.specs.Request.{cellsNeeded, levelsCheck, answerBy, AnsweredBy, Answered, resultIn}
-use Rattle.study.specs.Accuracy.{hasTrains, AccurateToBare, Demand3}
+use Rattle.study.specs.Request.{cellsNeeded, levelsCheck, answerBy, Answered, resultIn}
+use Rattle.study.specs.Accuracy.{hasTrains, Band, demanded, sharpest, AccurateToBare, AccurateRuns, Demand3, Demand3Sharp}
 use Rattle.study.proofs.Plans.{accepted-held}
 use Rattle.study.proofs.Runs.{run-accepted}
-use Rattle.study.proofs.Entries.{result-accurate}
+use Rattle.study.proofs.Entries.{TotalsKeep, result-accurate}
 
 some-entry : (p : Period) (es : List Entry) → hasTrains p es ≡ true → 0 < length es
 unfolding hasTrains
@@ -41,30 +42,37 @@ unfolding resultIn answerBy
 result-in Day plan m = refl
 result-in Night plan m = refl
 
-pub demand-3 : Demand3
-unfolding answerBy
-demand-3 l fit additions p trains m before after r enough by =
-    let plan = accepted l additions in
-    let held = accepted-held l additions in
-    let check : levelsCheck plan (length before) ≡ Accepted = request-answered plan (length before) (some-entry p (plan .entries) trains) enough in
-    let whole : r ≡ answerBy Accepted plan m = rw (run-accepted l fit additions, check) at (by .answer) in (
-      ap (λ (a : Answer). a .check) whole,
-      rw (whole, result-in p plan m) (result-accurate p plan m held (le-trans (held .total) (fit .entries)) trains),
-    )
+-- At any limits that fit, and in every band that totals keep to.
+module _ (band : Band) (kept : TotalsKeep band) (l : Limits) (fit : LimitsFit l) where
+  in-band : AccurateRuns band l
+  unfolding answerBy
+  in-band additions p trains m before after r enough by =
+      let plan = accepted l additions in
+      let held = accepted-held l additions in
+      let check : levelsCheck plan (length before) ≡ Accepted = request-answered plan (length before) (some-entry p (plan .entries) trains) enough in
+      let whole : r ≡ answerBy Accepted plan m = rw (run-accepted l fit additions, check) at (by .answer) in (
+        ap (λ (a : Answer). a .check) whole,
+        rw (whole, result-in p plan m) (result-accurate band kept p plan m held (le-trans (held .total) (fit .entries)) trains),
+      )
 
--- The same of what `levels` ensures, by the program's own marks.
-pub levels-accurate : (l : Limits) → LimitsFit l → (additions : List Addition) (p : Period) → hasTrains p (accepted l additions .entries) ≡ true →
-    (before after : List ℤ) (r : Answer) → cellsNeeded (length (accepted l additions .entries)) ≤ length before → Answered (run l additions) before after r →
-    AccurateToBare p (accepted l additions) (resultIn p r)
-levels-accurate l fit additions p trains before after r enough a = demand-3 l fit additions p trains _ before after r enough (a .by) .1
+pub runs-accurate : (l : Limits) → LimitsFit l → AccurateRuns demanded l
+runs-accurate = in-band demanded (λ limit mark b h fs rs es. accurate limit mark b h es)
+
+pub runs-sharp : (l : Limits) → LimitsFit l → AccurateRuns sharpest l
+runs-sharp = in-band sharpest (λ limit mark b h fs rs es. accurate-sharp limit mark b h es)
 
 -- Our own limits, so that no premise on sizes is left.
 pub ours-fit : LimitsFit ours
 ours-fit = record { segments = le-refl 24; entries = le-refl 96 }
 
--- Document 01's demand 3, at its own limits of 24 segments and 96 entries, with nothing assumed of sizes.
-pub demand-3-ours : (additions : List Addition) (p : Period) → hasTrains p (accepted ours additions .entries) ≡ true →
-    (m : Marks) (before after : List ℤ) (r : Answer) → cellsNeeded (length (accepted ours additions .entries)) ≤ length before →
-    AnsweredBy (planOf (run ours additions)) m before after r →
-    (r .check ≡ Accepted) × AccurateToBare p (accepted ours additions) (resultIn p r)
-demand-3-ours = demand-3 ours ours-fit
+pub demand-3 : Demand3
+demand-3 = runs-accurate ours ours-fit
+
+pub demand-3-sharp : Demand3Sharp
+demand-3-sharp = runs-sharp ours ours-fit
+
+-- The same of what `levels` ensures, by the program's own marks.
+pub levels-accurate : (l : Limits) → LimitsFit l → (additions : List Addition) (p : Period) → hasTrains p (accepted l additions .entries) ≡ true →
+    (before after : List ℤ) (r : Answer) → cellsNeeded (length (accepted l additions .entries)) ≤ length before → Answered (run l additions) before after r →
+    AccurateToBare demanded p (accepted l additions) (resultIn p r)
+levels-accurate l fit additions p trains before after r enough a = runs-accurate l fit additions p trains _ before after r enough (a .by) .1

@@ -15,9 +15,8 @@ use Rattle.decibel.specs.declared.Level.{Level}
 use Rattle.decibel.specs.declared.Level.the-variants.{Silent, Figure}
 use Rattle.energy.specs.Energy.{added, BareLevel, bareAt}
 use Rattle.energy.specs.Total.{energies, totalBy}
-use Rattle.energy.specs.Accuracy.{Entries, none, next}
-use Rattle.energy.specs.Accuracy as Totals
-use Rattle.energy.proofs.Accurate.{accurate, entries-bare}
+use Rattle.energy.specs.Accuracy.{Entries, none, next, AccurateTotal}
+use Rattle.energy.proofs.Accurate.{entries-bare}
 use Rattle.energy.proofs.Bare.{bare-same}
 use Rattle.figures.specs.declared.Segment.{Segment}
 use Rattle.figures.specs.declared.Train.{Train}
@@ -37,7 +36,7 @@ use Rattle.study.specs.Run.{Each, EntryHeld, Held}
 use Rattle.study.specs.Run as Run
 use Rattle.study.specs.Levels.{Marks, markAt, totalMarkIn, levelAt, levelsOf, figures, limitOf, metBy, resultFrom, resultBy, closeSegments}
 use Rattle.study.proofs.Plans.{segment-kept}
-use Rattle.study.specs.Accuracy.{fencesOf, Bare, hasTrains, alwaysFrom, neverBelow, Accurate, AccurateToBare}
+use Rattle.study.specs.Accuracy.{fencesOf, Bare, hasTrains, Band, AccurateToBare}
 
 -- the fences and the figures of the entries that have trains in a period
 pub entries-near : (p : Period) {l : Limits} (plan : Plan) (m : Marks) → Held l plan → {es : List Entry} → Each (EntryHeld (plan .segments)) es → Entries (fencesOf p plan es) (figures (map (levelAt p plan m) es))
@@ -83,42 +82,39 @@ unfolding totalBy
 figure-of mark none h = absurd (lt-irrefl 0 h)
 figure-of mark (next near loud es) h = refl
 
-always-is : (p : Period) → alwaysFrom p ≡ pos (1000000 * limitOf p - 40000)
-unfolding alwaysFrom limitOf
-always-is Day = refl
-always-is Night = refl
-
-never-is : (p : Period) → neverBelow p ≡ pos (1000000 * limitOf p - 960000)
-unfolding neverBelow limitOf
-never-is Day = refl
-never-is Night = refl
-
 some-limit : (p : Period) → 1 ≤ limitOf p
 unfolding limitOf
 some-limit Day = lit≤ tt
 some-limit Night = lit≤ tt
 
--- A period's result by any marks is accurate to the plan's bare level.
-pub result-accurate : (p : Period) {l : Limits} (plan : Plan) (m : Marks) → Held l plan → length (plan .entries) ≤ 96 → hasTrains p (plan .entries) ≡ true → AccurateToBare p plan (resultBy p plan m)
-unfolding Bare resultBy resultFrom levelsOf metBy
-result-accurate p plan m held few trains =
-    let es = entries-near p plan m held (held .entries) in
-    let some = fences-some p plan (plan .entries) trains in
-    let b = bareAt (added (fencesOf p plan (plan .entries))) in
-    let is = entries-bare es some in
-    let mark = totalMarkIn p m in
-    let level = figure-of mark es some in
-    let a = accurate (limitOf p) mark b (some-limit p) es some (le-trans (fences-few p plan (plan .entries)) few) is in
-    record {
-      bare = b;
-      is = is;
-      only = λ c h. bare-same (added (fencesOf p plan (plan .entries))) c b h is;
-      accurate = record {
-        figure = byMark mark (bareAt (energies (figures (map (levelAt p plan m) (plan .entries)))));
-        level = level;
-        above = a .above;
-        below = a .below;
-        always = λ h. rw level (a .always (rw (always-is p) at h));
-        never = λ h. rw level (a .never (rw (never-is p) at h));
-      };
-    }
+-- the total of up to 96 levels near their fences keeps to a band
+abbrev pub TotalsKeep : Band → Type 0
+TotalsKeep band =
+    (limit : ℕ) (mark : Bool) (b : ℤ) → 1 ≤ limit → (fs rs : List ℤ) → Entries fs rs → 0 < length fs → length fs ≤ 96 → BareLevel (added fs) b →
+    AccurateTotal (band .above) (band .below) (band .always) (band .never) limit b (byMark mark (bareAt (energies rs)))
+
+-- A period's result by any marks is accurate to the plan's bare level, in every band that totals keep to.
+module _ (band : Band) (kept : TotalsKeep band) where
+  pub result-accurate : (p : Period) {l : Limits} (plan : Plan) (m : Marks) → Held l plan → length (plan .entries) ≤ 96 → hasTrains p (plan .entries) ≡ true → AccurateToBare band p plan (resultBy p plan m)
+  unfolding Bare resultBy resultFrom levelsOf metBy
+  result-accurate p plan m held few trains =
+      let es = entries-near p plan m held (held .entries) in
+      let some = fences-some p plan (plan .entries) trains in
+      let b = bareAt (added (fencesOf p plan (plan .entries))) in
+      let is = entries-bare es some in
+      let mark = totalMarkIn p m in
+      let level = figure-of mark es some in
+      let a = kept (limitOf p) mark b (some-limit p) _ _ es some (le-trans (fences-few p plan (plan .entries)) few) is in
+      record {
+        bare = b;
+        is = is;
+        only = λ c h. bare-same (added (fencesOf p plan (plan .entries))) c b h is;
+        accurate = record {
+          figure = byMark mark (bareAt (energies (figures (map (levelAt p plan m) (plan .entries)))));
+          level = level;
+          above = a .above;
+          below = a .below;
+          always = λ h. rw level (a .always h);
+          never = λ h. rw level (a .never h);
+        };
+      }

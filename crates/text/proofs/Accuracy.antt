@@ -13,7 +13,7 @@ use Rattle.study.specs.declared.request.Answer.{Answer}
 use Rattle.study.specs.Add.{Limits}
 use Rattle.study.specs.Run.{accepted, LimitsFit}
 use Rattle.study.specs.Request.{cellsNeeded, Answered, resultIn}
-use Rattle.study.specs.Accuracy.{hasTrains, AccurateToBare}
+use Rattle.study.specs.Accuracy.{hasTrains, AccurateToBare, demanded}
 use Rattle.study.proofs.Demand3.{levels-accurate}
 use Rattle.text.specs.Text.{readText}
 use Rattle.text.specs.Additions.{additionsOf}
@@ -21,7 +21,7 @@ use Rattle.text.proofs.Runs.{accepted-text-is-run}
 
 pub text-accurate : (l : Limits) → LimitsFit l → (text : List ℕ) → readText l text .check ≡ Accepted → (p : Period) → hasTrains p (accepted l (additionsOf l text) .entries) ≡ true →
     (before after : List ℤ) (r : Answer) → cellsNeeded (length (accepted l (additionsOf l text) .entries)) ≤ length before →
-    Answered (readText l text .study) before after r → AccurateToBare p (accepted l (additionsOf l text)) (resultIn p r)
+    Answered (readText l text .study) before after r → AccurateToBare demanded p (accepted l (additionsOf l text)) (resultIn p r)
 text-accurate l fit text ok p trains before after r enough a =
     levels-accurate l fit (additionsOf l text) p trains before after r enough
     (subst (λ (st : Study). Answered st before after r) (accepted-text-is-run l text ok) a)
