@@ -2,28 +2,31 @@
 -- Assumes nothing.
 use mathlib.Core.Path.{_≡_, sym, ap, ap₂, _∙_}
 use mathlib.Core.List.{List, _++_, append-assoc}
-use mathlib.Core.Bool.{Bool, false}
-use Prim.Native.Nat.{ℕ, _+_, _<_, _≤_}
+use mathlib.Core.Bool.{Bool}
+use Prim.Native.Nat.{ℕ, _+_, _<_, _≤_, min}
+use native.Mathlib.Nat.{min-eq-left, lt-of-not-le}
+use native.Mathlib.Decide.{decLe}
 use native.Mathlib.Omega.{arith}
 use borrow.Author.Tests.{lt-ltb, le-ltb, le-leb, lt-leb}
 use lib.IntN.{ℤ}
-use lib.ListN.{length, take, drop, getD, length-map}
-use lib.Seq.{paste, take-all, take-at, drop-append-add, drop-drop}
+use lib.ListN.{length, take, drop, length-map, length-take}
+use lib.Seq.{paste, length-take-le, take-all, take-at, drop-append-add, drop-drop}
+use Rattle.figures.specs.declared.Segment.{Segment}
 use Rattle.figures.specs.declared.Period.the-variants.{Day, Night}
 use Rattle.figures.specs.declared.Refusal.{Refusal}
 use Rattle.figures.specs.declared.Refusal.the-variants.{NoEntry, FewCells}
 use Rattle.figures.specs.declared.Check.the-variants.{Accepted, Refused}
 use Rattle.figures.specs.Refusal.{unless}
-use Rattle.propagation.specs.Propagation.{propagationOf}
 use Rattle.study.specs.declared.Entry.{Entry}
 use Rattle.study.specs.declared.Study.{Study}
 use Rattle.study.specs.declared.request.PeriodResult.{PeriodResult}
 use Rattle.study.specs.declared.request.Answer.{Answer}
-use Rattle.study.specs.Plan.{Plan, planOf, segmentAt}
+use Rattle.study.specs.Plan.{Plan, planOf, heldBy}
 use Rattle.study.specs.Levels.{levelsOf, levelAt, ownMarks}
 use Rattle.study.specs.Request.{cellsNeeded, levelsCheck, cellsBy, cellsAnswered, answerBy, refusedBy, Answered}
-use Rattle.study.specs.Private.{cellsOf, placesOf, Filled, periodFrom}
-use Rattle.study.proofs.Cells.{cells-length}
+use Rattle.study.specs.Private.{cellsOf, placesOf, Propagated, Filled, periodFrom}
+use Rattle.study.proofs.Sizes.{taken-length}
+use Rattle.study.proofs.Cells.{cells-length, cells-found}
 use Rattle.study.proofs.Results.{period-is, own-allowed}
 
 -- ---- which refusal applies
@@ -83,12 +86,12 @@ module _ (st : Study) (few : length (planOf st .entries) ≤ 96) (before : List 
 
 -- ---- the parts of the levels as computed
 
-module _ {plan : Plan} {t : ℕ} (count : t ≡ length (plan .entries)) {ds ns : List ℤ} {ps : List ℕ} (filled : Filled plan ds ns ps) where
+module _ {plan : Plan} {t : ℕ} (count : t ≡ length (plan .entries)) {tenths : List ℤ} {close : List Bool} (all : Propagated (plan .segments) tenths close) {ds ns : List ℤ} {ps : List ℕ} (filled : Filled tenths (plan .entries) ds ns ps) where
   pub day-part : take t ds ≡ cellsOf Day plan
-  day-part = ap (λ (k : ℕ). take k ds) count ∙ filled .day
+  day-part = ap (λ (k : ℕ). take k ds) count ∙ filled .day ∙ cells-found Day plan tenths (all .tenths)
 
   pub night-part : take t ns ≡ cellsOf Night plan
-  night-part = ap (λ (k : ℕ). take k ns) count ∙ filled .night
+  night-part = ap (λ (k : ℕ). take k ns) count ∙ filled .night ∙ cells-found Night plan tenths (all .tenths)
 
   pub place-part : take t ps ≡ placesOf (plan .entries)
   place-part = ap (λ (k : ℕ). take k ps) count ∙ filled .places
@@ -106,11 +109,51 @@ module _ {plan : Plan} {t : ℕ} (count : t ≡ length (plan .entries)) {ds ns :
     pub both-written : second ≡ cellsAnswered plan (ownMarks plan) cells
     both-written = b ∙ rw (a, day-part, night-part) (all-written plan cells t count room)
 
-  pub both-results : (close : List Bool) {d n : PeriodResult} → length (plan .segments) ≤ 24 → ((k : ℕ) → getD close k false ≡ propagationOf (segmentAt plan k) .close)
-      → d ≡ periodFrom Day (take t ds) (take t ps) close → n ≡ periodFrom Night (take t ns) (take t ps) close
+  pub both-results : {d n : PeriodResult} → length (plan .segments) ≤ 24 → d ≡ periodFrom Day (take t ds) (take t ps) close → n ≡ periodFrom Night (take t ns) (take t ps) close
       → _≡_ {A = Answer} (record { check = Accepted; day = d; night = n }) (answerBy Accepted plan (ownMarks plan))
   unfolding answerBy
-  both-results close few all d n =
-      let day = d ∙ ap₂ (λ (x : List ℤ) (y : List ℕ). periodFrom Day x y close) day-part place-part ∙ period-is Day plan close few all in
-      let night = n ∙ ap₂ (λ (x : List ℤ) (y : List ℕ). periodFrom Night x y close) night-part place-part ∙ period-is Night plan close few all in
+  both-results few d n =
+      let day = d ∙ ap₂ (λ (x : List ℤ) (y : List ℕ). periodFrom Day x y close) day-part place-part ∙ period-is Day plan close few (all .close) in
+      let night = n ∙ ap₂ (λ (x : List ℤ) (y : List ℕ). periodFrom Night x y close) night-part place-part ∙ period-is Night plan close few (all .close) in
       rw (day, night)
+
+-- ---- of what arrays hold
+
+take-min : {A : Type 0} (t : ℕ) (xs : List A) → take (min t (length xs)) xs ≡ take t xs
+take-min t xs = go (decLe t (length xs))
+  where
+    go : Dec (t ≤ length xs) → take (min t (length xs)) xs ≡ take t xs
+    go (yes h) = ap (λ (k : ℕ). take k xs) (min-eq-left h)
+    go (no f) = let h : length xs ≤ t = omega (arith, lt-of-not-le f) in take-all (min t (length xs)) xs (omega arith) ∙ sym (take-all t xs h)
+
+module _ (segments : List Segment) (n : ℕ) (entries : List Entry) (t : ℕ) where
+  pub held-rows : t ≤ length entries → t ≡ length (planOf (heldBy segments n entries t) .entries)
+  unfolding planOf
+  held-rows h = sym (length-take-le t entries h)
+
+  pub held-few : length segments ≤ 24 → length (planOf (heldBy segments n entries t) .segments) ≤ 24
+  unfolding planOf
+  held-few h = omega (arith, length-take n segments)
+
+  pub held-propagated : {tenths : List ℤ} {close : List Bool} → Propagated (take n segments) tenths close → Propagated (planOf (heldBy segments n entries t) .segments) tenths close
+  unfolding planOf
+  held-propagated p = p
+
+  pub held-filled : {tenths ds ns : List ℤ} {ps : List ℕ} → Filled tenths (take t entries) ds ns ps → Filled tenths (planOf (heldBy segments n entries t) .entries) ds ns ps
+  unfolding planOf
+  held-filled f = f
+
+  -- so many entries, with a number that is cut to the array
+  module _ (size : length entries ≡ 96) where
+    pub held-most : length (planOf (heldBy segments n entries t) .entries) ≤ 96
+    unfolding planOf
+    held-most = omega (arith, length-take t entries)
+
+    module _ {r : ℕ} (e : r ≡ min t 96) where
+      pub held-count : r ≡ length (planOf (heldBy segments n entries t) .entries)
+      unfolding planOf
+      held-count = taken-length entries t 96 r size e
+
+      pub held-same : planOf (heldBy segments n entries r) ≡ planOf (heldBy segments n entries t)
+      unfolding planOf
+      held-same = ap (λ (es : List Entry). record { segments = take n segments; entries = es }) (ap (λ (k : ℕ). take k entries) (e ∙ ap (min t) (sym size)) ∙ take-min t entries)

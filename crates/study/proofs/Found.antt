@@ -16,14 +16,14 @@ use lib.Seq.{getD-set-same, getD-set-other}
 use Rattle.figures.specs.declared.Segment.{Segment}
 use Rattle.figures.specs.Refusal.{unless, isAccepted}
 use Rattle.figures.specs.Rules.{distanceKept, rangesThen}
-use Rattle.figures.specs.Bounds.{Below}
 use Rattle.propagation.specs.declared.Propagation.{Propagation}
 use Rattle.propagation.specs.Check.{segmentCheck}
 use Rattle.propagation.specs.Ground.{groundMark}
 use Rattle.propagation.specs.Propagation.{segmentPartsBy, noSegmentParts, segmentBreakdownBy, segmentBreakdownOf, addedUp, propagationOf}
+use Rattle.propagation.proofs.SegmentSum.{propagation-small}
 use Rattle.study.specs.Plan.{Plan, segmentAt, noSegment}
 use Rattle.study.specs.Levels.{markAt, groundMarks}
-use Rattle.study.specs.Private.{Blank, TenthsFound, Propagated}
+use Rattle.study.specs.Private.{Propagated}
 
 -- nothing is added where there is no segment
 pub none-adds : propagationOf noSegment ≡ record { tenths = pos 0; close = false }
@@ -81,21 +81,21 @@ filled-each d of k {xs} all past j = go (decLt j k)
     go (yes h) = all .done j h
     go (no f) = all .rest j (omega arith) ∙ sym (past j (omega arith))
 
-abbrev pub tenthsOf : Plan → ℕ → ℤ
-tenthsOf plan j = propagationOf (segmentAt plan j) .tenths
+abbrev pub tenthsOf : List Segment → ℕ → ℤ
+tenthsOf ss j = propagationOf (getD ss j noSegment) .tenths
 
-abbrev pub closeOf : Plan → ℕ → Bool
-closeOf plan j = propagationOf (segmentAt plan j) .close
+abbrev pub closeOf : List Segment → ℕ → Bool
+closeOf ss j = propagationOf (getD ss j noSegment) .close
 
-no-segment-adds : (plan : Plan) (j : ℕ) → length (plan .segments) ≤ j → propagationOf (segmentAt plan j) ≡ record { tenths = pos 0; close = false }
-no-segment-adds plan j h = ap propagationOf (List·getD-eq-default (plan .segments) noSegment h) ∙ none-adds
+no-segment-adds : (ss : List Segment) (j : ℕ) → length ss ≤ j → propagationOf (getD ss j noSegment) ≡ record { tenths = pos 0; close = false }
+no-segment-adds ss j h = ap propagationOf (List·getD-eq-default ss noSegment h) ∙ none-adds
 
-pub found-all : (plan : Plan) (k : ℕ) {tenths : List ℤ} {close : List Bool} → k ≡ length (plan .segments) → FilledTo (pos 0) (tenthsOf plan) k tenths → FilledTo false (closeOf plan) k close
-    → ((j : ℕ) → Below 20000 (tenthsOf plan j)) → Propagated plan tenths close
-found-all plan k e t c small =
-    let each = filled-each (pos 0) (tenthsOf plan) k t (λ j h. ap (λ (p : Propagation). p .tenths) (no-segment-adds plan j (omega arith))) in
+pub found-all : (ss : List Segment) (k : ℕ) {tenths : List ℤ} {close : List Bool} → k ≡ length ss → FilledTo (pos 0) (tenthsOf ss) k tenths → FilledTo false (closeOf ss) k close → Propagated ss tenths close
+found-all ss k e t c =
+    let each = filled-each (pos 0) (tenthsOf ss) k t (λ j h. ap (λ (p : Propagation). p .tenths) (no-segment-adds ss j (omega arith))) in
     record {
-      tenths = record { each = each; small = λ j. rw (each j) (small j) };
-      close = filled-each false (closeOf plan) k c (λ j h. ap (λ (p : Propagation). p .close) (no-segment-adds plan j (omega arith)));
+      tenths = each;
+      close = filled-each false (closeOf ss) k c (λ j h. ap (λ (p : Propagation). p .close) (no-segment-adds ss j (omega arith)));
+      small = record { each = λ j. rw (each j) (propagation-small (getD ss j noSegment)) };
       size = c .size;
     }

@@ -25,11 +25,14 @@ entries-size : (st : Study) → Passed st → length (st .entries) ≡ 96
 entries-size st g = simp length-map at (g .1 .1 .1 .1 .0 .1 .0 .1)
 
 -- the part of a list that counts
-taken-length : {A : Type 0} (xs : List A) (n size r : ℕ) → length xs ≡ size → r ≡ min n size → r ≡ length (take n xs)
+pub taken-length : {A : Type 0} (xs : List A) (n size r : ℕ) → length xs ≡ size → r ≡ min n size → r ≡ length (take n xs)
 taken-length xs n size r e h = h ∙ ap (min n) (sym e) ∙ sym (length-take n xs)
 
 taken-most : {A : Type 0} (xs : List A) (n i : ℕ) → i < length (take n xs) → i < n
 taken-most xs n i h = omega (arith, length-take n xs)
+
+pub taken-at : {A : Type 0} (xs : List A) (n i : ℕ) (d : A) → i < length (take n xs) → getD (take n xs) i d ≡ getD xs i d
+taken-at xs n i d h = getD-take n xs i d (taken-most xs n i h)
 
 module _ (st : Study) (passed : Passed st) where
   pub plan-count : {r : ℕ} → r ≡ min (st .count) 24 → r ≡ length (planOf st .segments)
@@ -51,8 +54,8 @@ module _ (st : Study) (passed : Passed st) where
 module _ (st : Study) where
   pub plan-segment : (k : ℕ) → k < length (planOf st .segments) → segmentAt (planOf st) k ≡ getD (st .segments) k noSegment
   unfolding planOf
-  plan-segment k h = getD-take (st .count) (st .segments) k noSegment (taken-most (st .segments) (st .count) k h)
+  plan-segment k h = taken-at (st .segments) (st .count) k noSegment h
 
   pub plan-entry : (i : ℕ) → i < length (planOf st .entries) → getD (planOf st .entries) i noEntry ≡ getD (st .entries) i noEntry
   unfolding planOf
-  plan-entry i h = getD-take (st .total) (st .entries) i noEntry (taken-most (st .entries) (st .total) i h)
+  plan-entry i h = taken-at (st .entries) (st .total) i noEntry h

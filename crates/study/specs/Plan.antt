@@ -31,5 +31,9 @@ segmentAt plan k = getD (plan .segments) k noSegment
 unfoldable pub planOf : Study → Plan
 planOf st = record { segments = take (st .count) (st .segments); entries = take (st .total) (st .entries) }
 
+-- the study value that holds the first so many of some segments and entries
+abbrev pub heldBy : List Segment → ℕ → List Entry → ℕ → Study
+heldBy segments count entries total = record { segments = segments; count = count; entries = entries; total = total }
+
 unfoldable pub emptyStudy : Study
 emptyStudy = record { segments = replicate 24 noSegment; count = 0; entries = replicate 96 noEntry; total = 0 }

@@ -10,13 +10,15 @@ use lib.Signed.{leZ}
 use lib.ListN.{length, getD, set, take, replicate}
 use Rattle.energy.specs.Total.{heard}
 use Rattle.energy.specs.Mark.{totalOf}
+use Rattle.figures.specs.declared.Segment.{Segment}
 use Rattle.figures.specs.declared.Period.{Period}
 use Rattle.figures.specs.declared.Period.the-variants.{Day, Night}
 use Rattle.figures.specs.Bounds.{Below}
 use Rattle.propagation.specs.Propagation.{propagationOf}
+use Rattle.emission.specs.Emission.{raised, emissionOf}
 use Rattle.study.specs.declared.Entry.{Entry}
 use Rattle.study.specs.declared.request.PeriodResult.{PeriodResult}
-use Rattle.study.specs.Plan.{Plan, segmentAt}
+use Rattle.study.specs.Plan.{Plan, noSegment}
 use Rattle.study.specs.Levels.{levelsOf, groundMarks, cellOf, resultFrom}
 use Rattle.study.specs.Request.{cellsNeeded}
 
@@ -25,29 +27,32 @@ pub record Blank (ts : List ℤ) (cs : List Bool) : Type 0 where
   pub tenths : ts ≡ replicate 24 (pos 0)
   pub close : cs ≡ replicate 24 false
 
--- each segment's tenths stand at its place, and none past them
-pub record TenthsFound (plan : Plan) (tenths : List ℤ) : Type 0 where
-  pub each : (k : ℕ) → getD tenths k (pos 0) ≡ propagationOf (segmentAt plan k) .tenths
-  pub small : (k : ℕ) → Below 20000 (getD tenths k (pos 0))
+pub record TenthsSmall (tenths : List ℤ) : Type 0 where
+  pub each : (k : ℕ) → Below 20000 (getD tenths k (pos 0))
 
--- and each segment's close mark
-pub record Propagated (plan : Plan) (ts : List ℤ) (cs : List Bool) : Type 0 where
-  pub tenths : TenthsFound plan ts
-  pub close : (k : ℕ) → getD cs k false ≡ propagationOf (segmentAt plan k) .close
+-- each segment's tenths and close mark stand at its place, and none past them
+pub record Propagated (segments : List Segment) (ts : List ℤ) (cs : List Bool) : Type 0 where
+  pub tenths : (k : ℕ) → getD ts k (pos 0) ≡ propagationOf (getD segments k noSegment) .tenths
+  pub close : (k : ℕ) → getD cs k false ≡ propagationOf (getD segments k noSegment) .close
+  pub small : TenthsSmall ts
   pub size : length cs ≡ 24
 
 -- a period's levels as working cells hold them
 abbrev pub cellsOf : Period → Plan → List ℤ
 cellsOf p plan = map cellOf (levelsOf p plan (groundMarks plan))
 
+-- the same from what the segments add
+abbrev pub cellFrom : Period → List ℤ → Entry → ℤ
+cellFrom p tenths e = cellOf (raised (getD tenths (e .segment) (pos 0)) (emissionOf p (e .train)))
+
 abbrev pub placesOf : List Entry → List ℕ
 placesOf es = map (λ (e : Entry). e .segment) es
 
 -- the first places hold both periods' levels and the entries' segments
-pub record Filled (plan : Plan) (ds ns : List ℤ) (ps : List ℕ) : Type 0 where
-  pub day : take (length (plan .entries)) ds ≡ cellsOf Day plan
-  pub night : take (length (plan .entries)) ns ≡ cellsOf Night plan
-  pub places : take (length (plan .entries)) ps ≡ placesOf (plan .entries)
+pub record Filled (tenths : List ℤ) (entries : List Entry) (ds ns : List ℤ) (ps : List ℕ) : Type 0 where
+  pub day : take (length entries) ds ≡ map (cellFrom Day tenths) entries
+  pub night : take (length entries) ns ≡ map (cellFrom Night tenths) entries
+  pub places : take (length entries) ps ≡ placesOf entries
 
 -- the list with place k marked if it was, or if b holds; a place past the end changes nothing
 unfoldable pub markedBy : List Bool → ℕ → Bool → List Bool
@@ -78,7 +83,6 @@ unfoldable pub periodFrom : Period → List ℤ → List ℕ → List Bool → P
 periodFrom p levels places close = resultFrom p (totalOf (heard levels)) (countTo (λ k. getD close k false && soundsAt k places levels) 24)
 
 -- so many entries, and cells enough
-pub record Enough (entries : List Entry) (total : ℕ) (cells : List ℤ) : Type 0 where
-  pub is : total ≡ length entries
+pub record Enough (total : ℕ) (cells : List ℤ) : Type 0 where
   pub most : total ≤ 96
   pub room : cellsNeeded total ≤ length cells

@@ -4,10 +4,11 @@ mod request;
 pub use request::Answer;
 pub use request::PeriodResult;
 pub use request::levels;
+pub use request::levels_of;
 
 ghost use mathlib.Core.Path.{_≡_};
 ghost use Prim.Native.Nat.{min};
-ghost use Rattle.study.specs.Plan.{noSegment, noEntry, emptyStudy, planOf};
+ghost use Rattle.study.specs.Plan.{noSegment, noEntry, emptyStudy, planOf, heldBy};
 ghost use Rattle.study.specs.Add.{ours, segmentLimit, segmentAnswer, trainLimit, trainAnswer, addSegment, addTrain};
 ghost use Rattle.study.specs.Run.{run, listed};
 use figures::Check;
@@ -171,7 +172,7 @@ pub fn study_of(
     entries: [Entry; MOST_ENTRIES],
     total: usize,
 ) -> Study
-    ensures { λ r. ⌜ r ≡ run ours (listed (planOf (record { segments = segments; count = count; entries = entries; total = total }))) ⌝ }
+    ensures { λ r. ⌜ r ≡ run ours (listed (planOf (heldBy segments count entries total))) ⌝ }
 {
     let places = at_most(count, MOST_SEGMENTS);
     let rows = at_most(total, MOST_ENTRIES);

@@ -3,15 +3,16 @@ ghost use mathlib.Core.Path.{_≡_};
 ghost use mathlib.Core.Bool.{cond};
 ghost use Prim.Native.Nat.{_+_, _*_, _-_, _≤_};
 ghost use lib.IntN.{pos};
-ghost use lib.ListN.{length, getD};
+ghost use lib.ListN.{length, getD, take};
 ghost use lib.Seq.{paste};
 ghost use Rattle.figures.specs.Bounds.{Below};
 ghost use Rattle.emission.specs.Emission.{raised};
 ghost use Rattle.emission.specs.Results.{SmallLevel};
-ghost use Rattle.study.specs.Plan.{planOf};
+ghost use Rattle.study.specs.Plan.{planOf, heldBy};
 ghost use Rattle.study.specs.Levels.{cellOf, limitOf, metBy, ownMarks};
 ghost use Rattle.study.specs.Request.{Answered, answerBy, refusedBy, cellsNeeded, cellsAnswered};
-ghost use Rattle.study.specs.Private.{Blank, TenthsFound, Propagated, Filled, SegmentsHeard, CloseCount, Enough, markedBy, periodFrom};
+ghost use Rattle.study.specs.Private.{Blank, TenthsSmall, Propagated, Filled, SegmentsHeard, CloseCount, Enough, markedBy, periodFrom};
+use crate::Entry;
 use crate::MOST_ENTRIES;
 use crate::MOST_SEGMENTS;
 use crate::Study;
@@ -20,6 +21,7 @@ use decibel::Level;
 use figures::Check;
 use figures::Period;
 use figures::Refusal;
+use figures::Segment;
 
 // What a working cell (01's term) holds of an entry that has no trains in the period.
 const SILENT_CELL: i32 = -9999;
@@ -46,15 +48,20 @@ pub struct Answer {
     pub night: PeriodResult,
 }
 
-// Writes what each of the study's segments adds to the level of its entries, and its close mark; nothing at the places past them.
-fn propagate(study: Study, tenths: &mut [i32], close: &mut [bool])
+// Writes what each of the first `count` segments adds to the level of its entries, and its close mark; nothing at the places past them.
+fn propagate(
+    segments: [Segment; MOST_SEGMENTS],
+    count: usize,
+    tenths: &mut [i32],
+    close: &mut [bool],
+)
     requires { ⌜ Blank (now tenths) (now close) ⌝ }
-    ensures { λ _. ⌜ Propagated (planOf study) (now (tenths .exit)) (now (close .exit)) ⌝ }
+    ensures { λ _. ⌜ Propagated (take count segments) (now (tenths .exit)) (now (close .exit)) ⌝ }
 {
-    let count = at_most(study.count, MOST_SEGMENTS);
+    let places = at_most(count, MOST_SEGMENTS);
     let mut k: usize = 0;
-    while k < count {
-        let segment = study.segments[k];
+    while k < places {
+        let segment = segments[k];
         let found = propagation::propagation_of(segment);
         let added = found.tenths;
         let marked = found.close;
@@ -85,22 +92,22 @@ fn cell_of(tenths: i32, emission: Level) -> i32
     }
 }
 
-// Writes both periods' levels, and each entry's segment, in one pass: a train's speed, vehicles and row serve both.
+// Writes both periods' levels of the first `total` entries, and each entry's segment, in one pass: a train's speed, vehicles and row serve both.
 fn fill(
-    study: Study,
+    entries: [Entry; MOST_ENTRIES],
+    total: usize,
     tenths: &[i32],
     day: &mut [i32],
     night: &mut [i32],
     places: &mut [usize],
 )
-    requires { ⌜ TenthsFound (planOf study) (now tenths) ⌝ }
+    requires { ⌜ (total ≤ 96) × TenthsSmall (now tenths) ⌝ }
     requires { ⌜ (length (now day) ≡ 96) × ((length (now night) ≡ 96) × (length (now places) ≡ 96)) ⌝ }
-    ensures { λ _. ⌜ Filled (planOf study) (now (day .exit)) (now (night .exit)) (now (places .exit)) ⌝ }
+    ensures { λ _. ⌜ Filled (now (tenths .entry)) (take total entries) (now (day .exit)) (now (night .exit)) (now (places .exit)) ⌝ }
 {
-    let total = at_most(study.total, MOST_ENTRIES);
     let mut at: usize = 0;
     while at < total {
-        let entry = study.entries[at];
+        let entry = entries[at];
         let emissions = emission::emissions_of(entry.train);
         let by_day = emissions.day;
         let by_night = emissions.night;
@@ -230,17 +237,23 @@ fn cells_needed(total: usize) -> usize
 }
 
 // The levels in the cells and both results, with `total` entries and cells enough.
-fn answered(study: Study, total: usize, cells: &mut [i32]) -> Answer
-    requires { ⌜ Enough (planOf study .entries) total (now cells) ⌝ }
-    ensures { λ r. ⌜ (now (cells .exit) ≡ cellsAnswered (planOf study) (ownMarks (planOf study)) (now (cells .entry))) × (r ≡ answerBy Check.Accepted (planOf study) (ownMarks (planOf study))) ⌝ }
+fn answered(
+    segments: [Segment; MOST_SEGMENTS],
+    count: usize,
+    entries: [Entry; MOST_ENTRIES],
+    total: usize,
+    cells: &mut [i32],
+) -> Answer
+    requires { ⌜ Enough total (now cells) ⌝ }
+    ensures { λ r. ⌜ (now (cells .exit) ≡ cellsAnswered (planOf (heldBy segments count entries total)) (ownMarks (planOf (heldBy segments count entries total))) (now (cells .entry))) × (r ≡ answerBy Check.Accepted (planOf (heldBy segments count entries total)) (ownMarks (planOf (heldBy segments count entries total)))) ⌝ }
 {
     let mut tenths = [0i32; MOST_SEGMENTS];
     let mut close = [false; MOST_SEGMENTS];
-    propagate(study, &mut tenths, &mut close);
+    propagate(segments, count, &mut tenths, &mut close);
     let mut day = [0i32; MOST_ENTRIES];
     let mut night = [0i32; MOST_ENTRIES];
     let mut places = [0usize; MOST_ENTRIES];
-    fill(study, &tenths, &mut day, &mut night, &mut places);
+    fill(entries, total, &tenths, &mut day, &mut night, &mut places);
     write(&day[..total], cells, 0);
     write(&night[..total], cells, total);
     Answer {
@@ -250,16 +263,32 @@ fn answered(study: Study, total: usize, cells: &mut [i32]) -> Answer
     }
 }
 
+// The same of a study's segments and entries, the first so many of each array, as another crate may hold them. They need not make a study:
+// what is refused adds nothing.
+pub fn levels_of(
+    segments: [Segment; MOST_SEGMENTS],
+    count: usize,
+    entries: [Entry; MOST_ENTRIES],
+    total: usize,
+    cells: &mut [i32],
+) -> Answer
+    ensures { λ r. ⌜ Answered (heldBy segments count entries total) (now (cells .entry)) (now (cells .exit)) r ⌝ }
+{
+    let rows = at_most(total, MOST_ENTRIES);
+    if rows == 0 {
+        return refusal_answer(Refusal::NoEntry);
+    }
+    if cells.len() < cells_needed(rows) {
+        return refusal_answer(Refusal::FewCells);
+    }
+    answered(segments, count, entries, rows, cells)
+}
+
 // Both periods' results, with the entries' levels in the first cells; on a refusal the cells are as they were.
 pub fn levels(study: Study, cells: &mut [i32]) -> Answer
     ensures { λ r. ⌜ Answered study (now (cells .entry)) (now (cells .exit)) r ⌝ }
 {
-    let total = at_most(study.total, MOST_ENTRIES);
-    if total == 0 {
-        return refusal_answer(Refusal::NoEntry);
-    }
-    if cells.len() < cells_needed(total) {
-        return refusal_answer(Refusal::FewCells);
-    }
-    answered(study, total, cells)
+    let segments = study.segments;
+    let entries = study.entries;
+    levels_of(segments, study.count, entries, study.total, cells)
 }

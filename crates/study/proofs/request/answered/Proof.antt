@@ -2,9 +2,10 @@
 -- Assumes nothing.
 use borrow.Author.Needs.{needs}
 use mathlib.Core.Path.{_∙_, sym}
+use Prim.Native.Nat.{_≤_}
 use native.Mathlib.Omega.{arith}
-use Rattle.study.proofs.Sizes.{few-segments}
-use Rattle.study.proofs.Answers.{day-length, night-length, place-length, both-written, both-results}
+use lib.ListN.{length}
+use Rattle.study.proofs.Answers.{day-length, night-length, place-length, both-written, both-results, held-rows, held-few, held-propagated, held-filled}
 use Rattle.study.proofs.request.answered.Statement.{statement}
 use Rattle.study.proofs.request.answered.Tie as tie
 
@@ -33,41 +34,63 @@ propagated c = c .before .before .before .before .before .before .before
 abbrev start-of : tie.After-fill → tie.Start
 start-of c = propagated c .before .before .before
 
+-- the arrays have room
+sizes : (c : tie.Start) → (c .args .total ≤ length (c .args .entries)) × (length (c .args .segments) ≤ 24)
+sizes c = (omega (arith, c .pre .most), omega arith)
+
 slice-aggregate-write : tie.Need-slice-aggregate-write
-slice-aggregate-write c = let f = at-write c in day-length (start-of f .pre .is) (f .fill .ensures)
+slice-aggregate-write c =
+    let f = at-write c in
+    let a = start-of f .args in
+    day-length (held-rows (a .segments) (a .count) (a .entries) (a .total) (sizes (start-of f) .0)) (held-propagated (a .segments) (a .count) (a .entries) (a .total) (propagated f .propagate .ensures)) (held-filled (a .segments) (a .count) (a .entries) (a .total) (f .fill .ensures))
 
 write-requires : tie.Need-write-requires
-write-requires c κs = let f = at-write (c .before) in omega (arith, day-length (start-of f .pre .is) (f .fill .ensures), start-of f .pre .room)
+write-requires c κs = let f = at-write (c .before) in omega (arith, slice-aggregate-write (c .before), start-of f .pre .room)
 
 slice-aggregate-write-2 : tie.Need-slice-aggregate-write-2
-slice-aggregate-write-2 c = let f = at-write-2 c in night-length (start-of f .pre .is) (f .fill .ensures)
+slice-aggregate-write-2 c =
+    let f = at-write-2 c in
+    let a = start-of f .args in
+    night-length (held-rows (a .segments) (a .count) (a .entries) (a .total) (sizes (start-of f) .0)) (held-propagated (a .segments) (a .count) (a .entries) (a .total) (propagated f .propagate .ensures)) (held-filled (a .segments) (a .count) (a .entries) (a .total) (f .fill .ensures))
 
 write-requires-2 : tie.Need-write-requires-2
-write-requires-2 c κs = let f = at-write-2 (c .before) in omega (arith, night-length (start-of f .pre .is) (f .fill .ensures), start-of f .pre .room, c .before .before .before .write .kept .1 .0)
+write-requires-2 c κs = let f = at-write-2 (c .before) in omega (arith, slice-aggregate-write-2 (c .before), start-of f .pre .room, c .before .before .before .write .kept .1 .0)
 
 slice-aggregate-period-of : tie.Need-slice-aggregate-period-of
-slice-aggregate-period-of c = let f = at-day c in day-length (start-of f .pre .is) (f .fill .ensures)
+slice-aggregate-period-of c =
+    let f = at-day c in
+    let a = start-of f .args in
+    day-length (held-rows (a .segments) (a .count) (a .entries) (a .total) (sizes (start-of f) .0)) (held-propagated (a .segments) (a .count) (a .entries) (a .total) (propagated f .propagate .ensures)) (held-filled (a .segments) (a .count) (a .entries) (a .total) (f .fill .ensures))
 
 slice-aggregate-period-of-2 : tie.Need-slice-aggregate-period-of-2
-slice-aggregate-period-of-2 c = let f = at-day (c .before) in place-length (start-of f .pre .is) (f .fill .ensures)
+slice-aggregate-period-of-2 c =
+    let f = at-day (c .before) in
+    let a = start-of f .args in
+    place-length (held-rows (a .segments) (a .count) (a .entries) (a .total) (sizes (start-of f) .0)) (held-propagated (a .segments) (a .count) (a .entries) (a .total) (propagated f .propagate .ensures)) (held-filled (a .segments) (a .count) (a .entries) (a .total) (f .fill .ensures))
 
 period-of-requires : tie.Need-period-of-requires
 period-of-requires c κs =
+    let p = c .before in
     let f = at-period c in
-    let p = start-of f .pre in
-    (omega (arith, p .most, day-length (p .is) (f .fill .ensures)), (sym (place-length (p .is) (f .fill .ensures)) ∙ day-length (p .is) (f .fill .ensures), propagated f .propagate .ensures .size))
+    (omega (arith, start-of f .pre .most, slice-aggregate-period-of (p .before)), (sym (slice-aggregate-period-of-2 p) ∙ slice-aggregate-period-of (p .before), propagated f .propagate .ensures .size))
 
 slice-aggregate-period-of-4 : tie.Need-slice-aggregate-period-of-4
-slice-aggregate-period-of-4 c = let f = at-night c in night-length (start-of f .pre .is) (f .fill .ensures)
+slice-aggregate-period-of-4 c =
+    let f = at-night c in
+    let a = start-of f .args in
+    night-length (held-rows (a .segments) (a .count) (a .entries) (a .total) (sizes (start-of f) .0)) (held-propagated (a .segments) (a .count) (a .entries) (a .total) (propagated f .propagate .ensures)) (held-filled (a .segments) (a .count) (a .entries) (a .total) (f .fill .ensures))
 
 slice-aggregate-period-of-5 : tie.Need-slice-aggregate-period-of-5
-slice-aggregate-period-of-5 c = let f = at-night (c .before) in place-length (start-of f .pre .is) (f .fill .ensures)
+slice-aggregate-period-of-5 c =
+    let f = at-night (c .before) in
+    let a = start-of f .args in
+    place-length (held-rows (a .segments) (a .count) (a .entries) (a .total) (sizes (start-of f) .0)) (held-propagated (a .segments) (a .count) (a .entries) (a .total) (propagated f .propagate .ensures)) (held-filled (a .segments) (a .count) (a .entries) (a .total) (f .fill .ensures))
 
 period-of-requires-2 : tie.Need-period-of-requires-2
 period-of-requires-2 c κs =
+    let p = c .before in
     let f = at-period-2 c in
-    let p = start-of f .pre in
-    (omega (arith, p .most, night-length (p .is) (f .fill .ensures)), (sym (place-length (p .is) (f .fill .ensures)) ∙ night-length (p .is) (f .fill .ensures), propagated f .propagate .ensures .size))
+    (omega (arith, start-of f .pre .most, slice-aggregate-period-of-4 (p .before)), (sym (slice-aggregate-period-of-5 p) ∙ slice-aggregate-period-of-4 (p .before), propagated f .propagate .ensures .size))
 
 returns : tie.Need-returns
 returns c =
@@ -77,9 +100,12 @@ returns c =
     let first = second .before .before .before .before in
     let f = at-period-2 close in
     let start = start-of f in
-    let all = propagated f .propagate .ensures in (
-      both-written (start .pre .is) (f .fill .ensures) (start .args .cells .now) (start .pre .room) (first .write .ensures) (second .write2 .ensures),
-      both-results (start .pre .is) (f .fill .ensures) _ (few-segments (start .args .study) (start .good .0)) (all .close) (period .period-of .ensures) (c .period-of2 .ensures),
+    let a = start .args in
+    let rows = held-rows (a .segments) (a .count) (a .entries) (a .total) (sizes start .0) in
+    let all = held-propagated (a .segments) (a .count) (a .entries) (a .total) (propagated f .propagate .ensures) in
+    let filled = held-filled (a .segments) (a .count) (a .entries) (a .total) (f .fill .ensures) in (
+      both-written rows all filled (a .cells .now) (start .pre .room) (first .write .ensures) (second .write2 .ensures),
+      both-results rows all filled (held-few (a .segments) (a .count) (a .entries) (a .total) (sizes start .1)) (period .period-of .ensures) (c .period-of2 .ensures),
     )
 
 pub answered-spec : {M : Type 1} → statement M
@@ -90,5 +116,5 @@ answered-spec =
     (λ c. search needs) (λ c. search needs) (λ c κs. search needs) (λ c. search needs) slice-aggregate-write write-requires
     (λ c. search needs) slice-aggregate-write-2 write-requires-2 (λ c. search needs) slice-aggregate-period-of
     (λ c. search needs) slice-aggregate-period-of-2 (λ c. search needs) period-of-requires (λ c. search needs)
-    slice-aggregate-period-of-4 (λ c. search needs) slice-aggregate-period-of-5 (λ c. search needs) period-of-requires-2
+    slice-aggregate-period-of-4 (λ c. omega (arith, start-of (at-night c) .pre .most)) slice-aggregate-period-of-5 (λ c. search needs) period-of-requires-2
     (λ c. search needs) returns)
