@@ -24,8 +24,9 @@ use Rattle.text.proofs.Runs.{accepted-text-is-run, accepted-line}
 use Rattle.text.proofs.Counted.{accepted-text-has-entry}
 use Rattle.text.proofs.Accuracy.{text-accurate}
 use Rattle.railnoise_c.specs.declared.RailnoiseAnswer.{RailnoiseAnswer}
-use Rattle.railnoise_c.specs.Exported.{isSilent, exportedPeriod, exported, answerWith, cellsWith, Called}
-use Rattle.railnoise_c.specs.Accuracy.{planIn, periodIn, PeriodAccurate, AnswerAccurate, CallAccurate}
+use Rattle.text.specs.Answer.{atLine, answerWith, cellsWith, textAnswer}
+use Rattle.railnoise_c.specs.Exported.{isSilent, exportedPeriod, exported, Called}
+use Rattle.railnoise_c.specs.Accuracy.{listedIn, periodIn, PeriodAccurate, AnswerAccurate, CallAccurate}
 
 -- what C gets of a period's result is as accurate as the result
 exported-accurate : (p : Period) (plan : Plan) (x : PeriodResult) → AccurateToBare demanded p plan x → PeriodAccurate p plan (exportedPeriod x)
@@ -43,7 +44,7 @@ exported-accurate p plan x a =
       never = a .accurate .never;
     }
 
-period-exported : (p : Period) (line : ℕ) (a : Answer) → periodIn p (exported line a) ≡ exportedPeriod (resultIn p a)
+period-exported : (p : Period) (line : ℕ) (a : Answer) → periodIn p (exported (atLine line a)) ≡ exportedPeriod (resultIn p a)
 unfolding periodIn exported resultIn
 period-exported Day line a = refl
 period-exported Night line a = refl
@@ -55,31 +56,31 @@ module _ (text : List ℕ) (before after : List ℤ) (r : RailnoiseAnswer) (call
   abbrev answer : Answer
   answer = answerBy (levelsCheck plan (length before)) plan (ownMarks plan)
 
-  whole : r ≡ exported 0 answer
-  unfolding answerWith
+  whole : r ≡ exported (atLine 0 answer)
+  unfolding textAnswer answerWith
   whole = rw (ok, accepted-line ours text ok) at (call .answer)
 
   answered : Answered (readText ours text .study) before after answer
   unfolding cellsWith
   answered = record { by = record { cells = rw ok at (call .cells); answer = refl }; allowed = call .allowed }
 
-  plan-is : plan ≡ planIn text
-  unfolding planIn
+  plan-is : plan ≡ listedIn text
+  unfolding listedIn
   plan-is = ap planOf (accepted-text-is-run ours text ok) ∙ run-accepted ours ours-fit (additionsOf ours text)
 
-  module _ (enough : cellsNeeded (length (planIn text .entries)) ≤ length before) where
+  module _ (enough : cellsNeeded (length (listedIn text .entries)) ≤ length before) where
     check-is : levelsCheck plan (length before) ≡ Accepted
-    unfolding planIn
-    check-is = rw plan-is (request-answered (planIn text) (length before) (accepted-text-has-entry ours ours-fit text ok) enough)
+    unfolding listedIn
+    check-is = rw plan-is (request-answered (listedIn text) (length before) (accepted-text-has-entry ours ours-fit text ok) enough)
 
-    accurate : AnswerAccurate (planIn text) r
-    unfolding exported planIn answerBy checkNumber
+    accurate : AnswerAccurate (listedIn text) r
+    unfolding exported listedIn answerBy checkNumber
     accurate =
-        subst (AnswerAccurate (planIn text)) (sym whole)
+        subst (AnswerAccurate (listedIn text)) (sym whole)
         (record {
           refusal = rw check-is refl;
           line = refl;
-          period = λ p trains. rw (period-exported p 0 answer) (exported-accurate p (planIn text) (resultIn p answer) (text-accurate ours ours-fit text ok p trains before after answer enough answered));
+          period = λ p trains. rw (period-exported p 0 answer) (exported-accurate p (listedIn text) (resultIn p answer) (text-accurate ours ours-fit text ok p trains before after answer enough answered));
         })
 
 pub call-accurate : CallAccurate

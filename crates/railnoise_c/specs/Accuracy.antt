@@ -24,8 +24,8 @@ use Rattle.railnoise_c.specs.declared.RailnoiseAnswer.{RailnoiseAnswer}
 use Rattle.railnoise_c.specs.Exported.{Called}
 
 -- the segments and entries of a text, by its lines alone: 01's "list of its segments and entries"
-unfoldable pub planIn : List ℕ → Plan
-planIn text = accepted ours (additionsOf ours text)
+unfoldable pub listedIn : List ℕ → Plan
+listedIn text = accepted ours (additionsOf ours text)
 
 -- the part of an answer for a period
 unfoldable pub periodIn : Period → RailnoiseAnswer → RailnoisePeriod
@@ -55,5 +55,5 @@ pub record AnswerAccurate (plan : Plan) (r : RailnoiseAnswer) : Type 0 where
 abbrev pub CallAccurate : Type 0
 CallAccurate =
     (text : List ℕ) (before after : List ℤ) (r : RailnoiseAnswer) → Called text before after r →
-    readText ours text .check ≡ Accepted → cellsNeeded (length (planIn text .entries)) ≤ length before →
-    AnswerAccurate (planIn text) r
+    readText ours text .check ≡ Accepted → cellsNeeded (length (listedIn text .entries)) ≤ length before →
+    AnswerAccurate (listedIn text) r

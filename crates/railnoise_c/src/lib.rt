@@ -2,9 +2,8 @@
 ghost use mathlib.Core.Path.{_≡_};
 ghost use Rattle.railnoise_c.specs.Exported.{exportedPeriod, exportedLine, exported, Called};
 use decibel::Level;
-use figures::Check;
-use study::Answer;
 use study::PeriodResult;
+use text::TextAnswer;
 
 // `railnoise_period`: the level in tenths, 0 when silent.
 #[repr(C)]
@@ -54,12 +53,12 @@ fn line_of(line: usize) -> u32
     }
 }
 
-fn answer_of(line: usize, answer: Answer) -> RailnoiseAnswer
-    ensures { λ r. ⌜ r ≡ exported line answer ⌝ }
+fn answer_of(answer: TextAnswer) -> RailnoiseAnswer
+    ensures { λ r. ⌜ r ≡ exported answer ⌝ }
 {
     let check = answer.check;
     let refusal = figures::check_number(check);
-    let at = line_of(line);
+    let at = line_of(answer.line);
     RailnoiseAnswer {
         refusal: refusal,
         line: at,
@@ -68,17 +67,10 @@ fn answer_of(line: usize, answer: Answer) -> RailnoiseAnswer
     }
 }
 
-// Reads the text and answers the request for levels over its study. A refused text's own number comes first; its study is empty, so that no cell is touched.
+// Reads the text and answers the request for levels over its study.
 #[no_mangle]
 pub extern "C" fn railnoise_levels(text: &[u8], cells: &mut [i32]) -> RailnoiseAnswer
     ensures { λ r. ⌜ Called (now (text .entry)) (now (cells .entry)) (now (cells .exit)) r ⌝ }
 {
-    let reading = text::read_text(text);
-    let answer = study::levels(reading.study, cells);
-    let read = reading.check;
-    let asked = answer.check;
-    let check = figures::first_refused(read, asked);
-    let day = answer.day;
-    let night = answer.night;
-    answer_of(reading.line, Answer { check, day, night })
+    answer_of(text::text_levels(text, cells))
 }

@@ -6,18 +6,13 @@ use lib.ListN.{length}
 use Rattle.figures.specs.declared.Refusal.{Refusal}
 use Rattle.figures.specs.declared.Check.{Check}
 use Rattle.figures.specs.declared.Check.the-variants.{Accepted, Refused}
-use Rattle.figures.specs.Refusal.{firstRefused}
 use Rattle.study.specs.declared.request.PeriodResult.{PeriodResult}
-use Rattle.study.specs.declared.request.Answer.{Answer}
-use Rattle.study.specs.Add.{ours}
-use Rattle.study.specs.Plan.{Plan, planOf}
 use Rattle.study.specs.Levels.{MarksAllowed, ownMarks}
-use Rattle.study.specs.Request.{levelsCheck, answerBy}
-use Rattle.text.specs.Text.{readText}
+use Rattle.text.specs.declared.TextAnswer.{TextAnswer}
+use Rattle.text.specs.Answer.{planIn, textAnswer}
 use Rattle.writing.specs.Bytes.{ascii, digitsOf}
 use Rattle.writing.specs.Pages.{Put}
 use Rattle.words.specs.Words.{refusedOf, noticeOf}
-use Rattle.report.specs.declared.Outcome.{Outcome}
 use Rattle.report.specs.declared.Written.{Written}
 use Rattle.report.specs.Bytes.{level, verdict}
 
@@ -41,26 +36,12 @@ refusalLine r line = flatten (refusedOf r line ∷ ascii "\n" ∷ [])
 
 -- ---- what a text comes to
 
--- the plan of the study that is read from the text: the empty one where it is refused
-abbrev pub planIn : List ℕ → Plan
-planIn text = planOf (readText ours text .study)
-
--- the working cells that the program lends
+-- the working cells that the program lends: no text that is accepted asks for more
 abbrev pub cellsLent : ℕ
 cellsLent = 192
 
-abbrev pub answerTo : Plan → Answer
-answerTo plan = answerBy (levelsCheck plan cellsLent) plan (ownMarks plan)
-
--- the reading's refusal and its line, or both periods' results. No text that is accepted is refused for its levels
-unfoldable pub outcomeOf : List ℕ → Outcome
-outcomeOf text =
-    record {
-      check = firstRefused (readText ours text .check) (answerTo (planIn text) .check);
-      line = readText ours text .line;
-      day = answerTo (planIn text) .day;
-      night = answerTo (planIn text) .night;
-    }
+abbrev pub outcomeOf : List ℕ → TextAnswer
+outcomeOf text = textAnswer text cellsLent
 
 -- ---- the report and the notice
 

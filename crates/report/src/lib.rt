@@ -1,12 +1,10 @@
 // The report of a study text: what the program writes, and the notice of a refusal beside it.
-ghost use mathlib.Core.Path.{_≡_};
 ghost use mathlib.Core.List.{[], _∷_};
 ghost use Prim.Native.Nat.{_+_, _≤_};
 ghost use lib.ListN.{length};
-ghost use Rattle.study.specs.Levels.{MarksAllowed, ownMarks};
 ghost use Rattle.writing.specs.Pages.{Put};
 ghost use Rattle.report.specs.Bytes.{level as Bytes·level, verdict};
-ghost use Rattle.report.specs.Report.{resultParts, periodParts, answerLines, refusalLine, planIn, outcomeOf, reportRoom, Reported};
+ghost use Rattle.report.specs.Report.{resultParts, periodParts, answerLines, refusalLine, reportRoom, Reported};
 ghost use Rattle.report.specs.Private.{PutWithin};
 use decibel::Level;
 use figures::Check;
@@ -17,34 +15,6 @@ use study::PeriodResult;
 pub struct Written {
     pub output: usize,
     pub notice: usize,
-}
-
-// What a text comes to: why it is refused and at which line, or both periods' results.
-struct Outcome {
-    check: Check,
-    line: usize,
-    day: PeriodResult,
-    night: PeriodResult,
-}
-
-fn outcome_of(text: &[u8]) -> Outcome
-    ensures { λ r. ⌜ (r ≡ outcomeOf (now (text .entry))) × MarksAllowed (planIn (now (text .entry))) (ownMarks (planIn (now (text .entry)))) ⌝ }
-{
-    let reading = text::read_text(text);
-    let mut cells = [0i32; 192];
-    let study = reading.study;
-    let answer = study::levels(study, &mut cells);
-    let read = reading.check;
-    let answered = answer.check;
-    let check = figures::first_refused(read, answered);
-    let day = answer.day;
-    let night = answer.night;
-    Outcome {
-        check,
-        line: reading.line,
-        day,
-        night,
-    }
 }
 
 fn put_level(out: &mut [u8], at: usize, level: Level) -> usize
@@ -111,7 +81,8 @@ fn put_refusal(out: &mut [u8], refusal: Refusal, line: usize) -> usize
 pub fn report(text: &[u8], out: &mut [u8], notice: &mut [u8]) -> Written
     ensures { λ r. ⌜ Reported (now (text .entry)) (now (out .entry)) (now (notice .entry)) (now (out .exit)) (now (notice .exit)) r ⌝ }
 {
-    let told = outcome_of(text);
+    let mut cells = [0i32; 192];
+    let told = text::text_levels(text, &mut cells);
     let check = told.check;
     match check {
         Check::Accepted => {

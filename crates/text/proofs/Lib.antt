@@ -11,3 +11,4 @@ pub mod Runs
 pub mod Refusals
 pub mod Counted
 pub mod Accuracy
+pub mod TextAnswers

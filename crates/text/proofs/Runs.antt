@@ -61,18 +61,6 @@ lines-run l st k (p ∷ ps) (x ∷ xs) e =
     ∙ lines-run l (a .study) (k + 1) ps xs (sym (ap (λ (r : Reading). r .check) (w .1)) ∙ e)
     ∙ line-runs l p st x (linesAdditions ps xs) (w .0)
 
--- the study of a reading that has come to its end is a run, so listed and added again it is the same
-pub rest-listed : {l : Limits} → LimitsFit l → {text : List ℕ} {start : ℕ} {counts : List ℕ} {st : Study} {at k : ℕ} → Rest l text start counts st at k [] → length text ≤ at
-    → {made : Study} → made ≡ run l (listed (planOf st)) → acceptedWith made ≡ readLines l emptyStudy 2 (kindsOf counts) (linesOf (drop start text))
-unfolding run
-rest-listed {l} fit {text} {start} {counts} {st} r h {made} e =
-    let done = rest-done r h in
-    let xs = linesOf (drop start text) in
-    let held : st ≡ run l (linesAdditions (kindsOf counts) xs) =
-    sym (ap (λ (x : Reading). x .study) done) ∙ lines-run l emptyStudy 2 (kindsOf counts) xs (ap (λ (x : Reading). x .check) done) in
-    let same : made ≡ st = e ∙ rw held (run-listed l fit (linesAdditions (kindsOf counts) xs)) in
-    rw same (sym done)
-
 body-runs : (l : Limits) (r : Read) (xs : List Line) → readBody l r xs .check ≡ Accepted → readBody l r xs .study ≡ run l (bodyAdditions r xs)
 unfolding run
 body-runs l (refused r) xs e = never e
@@ -163,3 +151,7 @@ text-is-run l text = go (readText l text .check) refl
     go : (c : Check) → readText l text .check ≡ c → (additions : List Addition) × (readText l text .study ≡ run l additions)
     go Accepted e = (additionsOf l text, accepted-text-is-run l text e)
     go (Refused f) e = ([], refused-text-is-empty l text f e)
+
+-- so listed and added again it is the same
+pub text-listed : (l : Limits) → LimitsFit l → (text : List ℕ) → run l (listed (planOf (readText l text .study))) ≡ readText l text .study
+text-listed l fit text = let r = text-is-run l text in rw (r .1) (run-listed l fit (r .0))

@@ -4,4 +4,5 @@ pub mod Lines
 pub mod Contents
 pub mod Text
 pub mod Additions
+pub mod Answer
 pub mod Private

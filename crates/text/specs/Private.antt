@@ -25,6 +25,9 @@ use Rattle.text.specs.declared.lines.SegmentLine.{SegmentLine}
 use Rattle.text.specs.declared.lines.SegmentLine.the-variants as S
 use Rattle.text.specs.declared.lines.TrainLine.{TrainLine}
 use Rattle.text.specs.declared.lines.TrainLine.the-variants as T
+use Rattle.study.specs.Plan.{heldBy}
+use Rattle.text.specs.declared.Reading.{Reading}
+use Rattle.text.specs.declared.Lists.{Lists}
 use Rattle.text.specs.declared.SegmentStep.{SegmentStep}
 use Rattle.text.specs.declared.SegmentStep.the-variants as SS
 use Rattle.text.specs.declared.TrainStep.{TrainStep}
@@ -106,3 +109,8 @@ TrainAt count total text at (TS.Refused r) = firstAnswer trainOf (trainLineAnswe
 abbrev pub faultOf : List Line → Refusal
 faultOf [] = Contents
 faultOf (x ∷ xs) = Form
+
+-- ---- the lists that a text gives, as the reading that they are
+
+abbrev pub opened : Lists → Reading
+opened r = record { check = r .check; line = r .line; study = heldBy (r .segments) (r .count) (r .entries) (r .total) }

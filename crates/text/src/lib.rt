@@ -7,10 +7,11 @@ ghost use mathlib.Core.Path.{_≡_};
 ghost use Prim.Native.Nat.{_+_, _≤_};
 ghost use lib.ListN.{length, drop};
 ghost use Rattle.study.specs.Add.{ours};
-ghost use Rattle.study.specs.Plan.{emptyStudy};
+ghost use Rattle.study.specs.Plan.{heldBy, emptyStudy};
 ghost use Rattle.text.specs.Bytes.{until};
 ghost use Rattle.text.specs.Text.{acceptedWith, refusedAt, readLines, kindsOf, linesOf, readText};
-ghost use Rattle.text.specs.Private.{SegmentAt, TrainAt, faultOf};
+ghost use Rattle.text.specs.Answer.{TextAnswered};
+ghost use Rattle.text.specs.Private.{opened, SegmentAt, TrainAt, faultOf};
 use contents::Contents;
 use contents::contents_of;
 use lines::SegmentLine;
@@ -24,8 +25,9 @@ use figures::Train;
 use study::Entry;
 use study::MOST_ENTRIES;
 use study::MOST_SEGMENTS;
+use study::PeriodResult;
 use study::Study;
-use study::empty;
+use study::levels_of;
 use study::no_entry;
 use study::no_segment;
 use study::segment_answer;
@@ -40,6 +42,24 @@ pub struct Reading {
     pub check: Check,
     pub line: usize,
     pub study: Study,
+}
+
+// What a text and working cells give: the refusal with its line, 0 where none is at fault, or both periods' results.
+pub struct TextAnswer {
+    pub check: Check,
+    pub line: usize,
+    pub day: PeriodResult,
+    pub night: PeriodResult,
+}
+
+// What a text's lines hold: accepted at line 0 with its segments and entries, or the refusal and the line at fault with none.
+struct Lists {
+    check: Check,
+    line: usize,
+    segments: [Segment; MOST_SEGMENTS],
+    count: usize,
+    entries: [Entry; MOST_ENTRIES],
+    total: usize,
 }
 
 // What a segment's line answers: the segment that it adds and where the next line starts, or why it is refused.
@@ -144,31 +164,42 @@ fn train_at(text: &[u8], at: usize, count: usize, total: usize) -> TrainStep
 }
 
 // A text that was read to its end.
-fn accepted(study: Study) -> Reading
-    ensures { λ r. ⌜ r ≡ acceptedWith study ⌝ }
+fn accepted(
+    segments: [Segment; MOST_SEGMENTS],
+    count: usize,
+    entries: [Entry; MOST_ENTRIES],
+    total: usize,
+) -> Lists
+    ensures { λ r. ⌜ opened r ≡ acceptedWith (heldBy segments count entries total) ⌝ }
 {
-    Reading {
+    Lists {
         check: Check::Accepted,
         line: 0,
-        study,
+        segments,
+        count,
+        entries,
+        total,
     }
 }
 
-// A refusal at a line, with the empty study.
-fn refused(refusal: Refusal, line: usize) -> Reading
-    ensures { λ r. ⌜ r ≡ refusedAt refusal line ⌝ }
+// A refusal at a line, with nothing read.
+fn refused(refusal: Refusal, line: usize) -> Lists
+    ensures { λ r. ⌜ opened r ≡ refusedAt refusal line ⌝ }
 {
-    Reading {
+    Lists {
         check: Check::Refused(refusal),
         line,
-        study: empty(),
+        segments: [no_segment(); MOST_SEGMENTS],
+        count: 0,
+        entries: [no_entry(); MOST_ENTRIES],
+        total: 0,
     }
 }
 
-// The lines after the contents: each segment's line, and its train lines after it. What they add is gathered in place, and the study is made once.
-fn read_lines(text: &[u8], start: usize, counts: &[usize]) -> Reading
+// The lines after the contents: each segment's line, and its train lines after it. What they add is gathered in place.
+fn read_lines(text: &[u8], start: usize, counts: &[usize]) -> Lists
     requires { ⌜ start ≤ length (now text) ⌝ }
-    ensures { λ r. ⌜ r ≡ readLines ours emptyStudy 2 (kindsOf (now (counts .entry))) (linesOf (drop start (now (text .entry)))) ⌝ }
+    ensures { λ r. ⌜ opened r ≡ readLines ours emptyStudy 2 (kindsOf (now (counts .entry))) (linesOf (drop start (now (text .entry)))) ⌝ }
 {
     let mut segments = [no_segment(); MOST_SEGMENTS];
     let mut entries = [no_entry(); MOST_ENTRIES];
@@ -181,7 +212,7 @@ fn read_lines(text: &[u8], start: usize, counts: &[usize]) -> Reading
             if at < text.len() {
                 break 'reading refused(Refusal::Contents, line);
             }
-            break 'reading accepted(study_of(segments, s, entries, total));
+            break 'reading accepted(segments, s, entries, total);
         }
         match segment_at(text, at, s) {
             SegmentStep::Refused(refusal) => break 'reading refused(refusal, line),
@@ -206,9 +237,9 @@ fn read_lines(text: &[u8], start: usize, counts: &[usize]) -> Reading
     }
 }
 
-// A whole text: its study, or the first line at fault.
-pub fn read_text(text: &[u8]) -> Reading
-    ensures { λ r. ⌜ r ≡ readText ours (now (text .entry)) ⌝ }
+// A whole text: what its lines hold, or the first line at fault.
+fn read_lists(text: &[u8]) -> Lists
+    ensures { λ r. ⌜ opened r ≡ readText ours (now (text .entry)) ⌝ }
 {
     if MOST_BYTES < text.len() {
         return refused(Refusal::Form, 0);
@@ -225,5 +256,42 @@ pub fn read_text(text: &[u8]) -> Reading
     match contents_of(line, MOST_SEGMENTS, MOST_ENTRIES, &mut counts) {
         Contents::Refused(refusal) => refused(refusal, 1),
         Contents::Counts(count) => read_lines(text, end + 1, &counts[..count]),
+    }
+}
+
+// A whole text: its study, or the first line at fault.
+pub fn read_text(text: &[u8]) -> Reading
+    ensures { λ r. ⌜ r ≡ readText ours (now (text .entry)) ⌝ }
+{
+    let lists = read_lists(text);
+    let check = lists.check;
+    let segments = lists.segments;
+    let entries = lists.entries;
+    Reading {
+        check,
+        line: lists.line,
+        study: study_of(segments, lists.count, entries, lists.total),
+    }
+}
+
+// From a text to its levels: the reading's refusal first, then the request's, else the levels in the cells and both results.
+// On a refusal the cells are as they were.
+pub fn text_levels(text: &[u8], cells: &mut [i32]) -> TextAnswer
+    ensures { λ r. ⌜ TextAnswered (now (text .entry)) (now (cells .entry)) (now (cells .exit)) r ⌝ }
+{
+    let lists = read_lists(text);
+    let segments = lists.segments;
+    let entries = lists.entries;
+    let answer = levels_of(segments, lists.count, entries, lists.total, cells);
+    let read = lists.check;
+    let asked = answer.check;
+    let check = figures::first_refused(read, asked);
+    let day = answer.day;
+    let night = answer.night;
+    TextAnswer {
+        check,
+        line: lists.line,
+        day,
+        night,
     }
 }

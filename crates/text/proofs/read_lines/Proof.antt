@@ -1,17 +1,15 @@
 -- `text::read_lines` meets its contract. Both loops' invariant: what is left of the text and of the kinds of line to come gives the whole answer.
 -- Assumes nothing.
-use mathlib.Core.Path.{refl, _∙_}
+use mathlib.Core.Path.{refl, sym, _∙_}
 use Prim.Native.Nat.{_+_, _-_, _≤_, _<_}
 use native.Mathlib.Omega.{arith}
 use lib.ListN.{length, drop}
 use Rattle.study.specs.Plan.{emptyStudy}
 use Rattle.study.specs.Add.{ours, withSegment}
 use Rattle.study.proofs.Additions.{segment-taken, train-taken}
-use Rattle.study.proofs.Demand3.{ours-fit}
 use Rattle.text.specs.Text.{trains, kindsOf}
 use Rattle.text.proofs.Places.{segment-found, train-found}
-use Rattle.text.proofs.Rest.{Rest, rest-segment, rest-none, rest-trains, rest-train, rest-after, rest-next, rest-refused, rest-over, segmentReader, trainReader}
-use Rattle.text.proofs.Runs.{rest-listed}
+use Rattle.text.proofs.Rest.{Rest, rest-segment, rest-none, rest-trains, rest-train, rest-after, rest-next, rest-refused, rest-over, rest-done, segmentReader, trainReader}
 use borrow.Author.Needs.{needs}
 use Rattle.text.proofs.read_lines.Statement.{statement}
 use Rattle.text.proofs.read_lines.Tie as tie
@@ -91,8 +89,8 @@ returns c =
 
 returns-2 : tie.Need-returns-2 Inv-loop μ-loop Inv-reading μ-reading
 returns-2 c =
-    let l = c .before .before .before .before in
-    c .accepted .ensures ∙ rest-listed ours-fit (rest-none (l .reading .s) (l .reading .inv .1) (omega arith)) (omega arith) (c .before .study-of .ensures)
+    let l = c .before .before .before in
+    c .accepted .ensures ∙ sym (rest-done (rest-none (l .reading .s) (l .reading .inv .1) (omega arith)) (omega arith))
 
 returns-3 : tie.Need-returns-3 Inv-loop μ-loop Inv-reading μ-reading
 returns-3 c =
@@ -115,7 +113,7 @@ read-lines-spec =
     Inv-loop μ-loop Inv-reading μ-reading
     (λ c κs. tt) (λ c κs. tt)
     reading-holds
-    (λ c κs. tt) (λ c κs. tt) (λ c κs. tt)
+    (λ c κs. tt) (λ c κs. tt)
     (λ c κs. c .before .reading .inv .1 .within) (λ c. c .match .keys1) (λ c κs. tt) (λ c. c .match .keys2)
     (λ c. omega (arith, segment-room c)) segment-room (λ c. omega arith) mul-end (λ c. omega arith)
     loop-holds
