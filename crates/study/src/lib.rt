@@ -10,7 +10,7 @@ ghost use mathlib.Core.Path.{_≡_};
 ghost use Prim.Native.Nat.{min};
 ghost use Rattle.study.specs.Plan.{noSegment, noEntry, emptyStudy, planOf, heldBy};
 ghost use Rattle.study.specs.Add.{ours, segmentLimit, segmentAnswer, trainLimit, trainAnswer, addSegment, addTrain};
-ghost use Rattle.study.specs.Run.{run, listed};
+ghost use Rattle.study.specs.Run.{runFrom, listed};
 use figures::Check;
 use figures::Refusal;
 use figures::Segment;
@@ -165,40 +165,31 @@ fn at_most(n: usize, most: usize) -> usize
     if n < most { n } else { most }
 }
 
-// The study of these segments and entries, added one after another: each segment, then the trains of its entries.
-pub fn study_of(
+// The study with the additions of these lists after its own: each segment, then the trains of its entries. What is refused adds nothing.
+pub fn extended(
+    start: Study,
     segments: [Segment; MOST_SEGMENTS],
     count: usize,
     entries: [Entry; MOST_ENTRIES],
     total: usize,
 ) -> Study
-    ensures { λ r. ⌜ r ≡ run ours (listed (planOf (heldBy segments count entries total))) ⌝ }
+    ensures { λ r. ⌜ r ≡ runFrom ours start (listed (planOf (heldBy segments count entries total))) ⌝ }
 {
     let places = at_most(count, MOST_SEGMENTS);
     let rows = at_most(total, MOST_ENTRIES);
-    let mut study = empty();
+    let mut study = start;
     let mut k: usize = 0;
     while k < places {
         let segment = segments[k];
-        let place = study.count;
-        if let Check::Accepted = segment_answer(place, segment) {
-            study.segments[place] = segment;
-            study.count = place + 1;
-        }
+        let lined = add_segment(study, segment);
+        study = lined.study;
         let mut i: usize = 0;
         while i < rows {
             let entry = entries[i];
             if entry.segment == k {
-                let held = study.count;
-                let row = study.total;
                 let train = entry.train;
-                if let Check::Accepted = train_answer(held, row, train) {
-                    study.entries[row] = Entry {
-                        segment: held - 1,
-                        train: train,
-                    };
-                    study.total = row + 1;
-                }
+                let added = add_train(study, train);
+                study = added.study;
             }
             i += 1;
         }

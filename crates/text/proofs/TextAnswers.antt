@@ -14,7 +14,7 @@ use Rattle.study.specs.declared.Study.{Study}
 use Rattle.study.specs.declared.request.Answer.{Answer}
 use Rattle.study.specs.Plan.{planOf, emptyStudy}
 use Rattle.study.specs.Add.{ours}
-use Rattle.study.specs.Run.{run, listed}
+use Rattle.study.specs.Run.{run, runFrom, listed}
 use Rattle.study.specs.Request.{cellsBy, answerBy, refusedBy, Answered}
 use Rattle.study.proofs.Answers.{no-entries}
 use Rattle.study.proofs.Demand3.{ours-fit}
@@ -63,9 +63,10 @@ module _ (text : List ℕ) {before after : List ℤ} {answer : Answer} (q : Answ
 -- ---- as the functions return them, from what the lines hold
 
 module _ (text : List ℕ) {x : Reading} (e : x ≡ readText ours text) where
-  pub text-read : {st : Study} → st ≡ run ours (listed (planOf (x .study))) → record { check = x .check; line = x .line; study = st } ≡ readText ours text
-  text-read {st} f =
-      let same : st ≡ readText ours text .study = f ∙ ap (λ (y : Reading). run ours (listed (planOf (y .study)))) e ∙ text-listed ours ours-fit text in
+  pub text-read : {st empty : Study} → empty ≡ emptyStudy → st ≡ runFrom ours empty (listed (planOf (x .study))) → record { check = x .check; line = x .line; study = st } ≡ readText ours text
+  unfolding run
+  text-read {st} z f =
+      let same : st ≡ readText ours text .study = f ∙ ap (λ (s : Study). runFrom ours s (listed (planOf (x .study)))) z ∙ ap (λ (y : Reading). run ours (listed (planOf (y .study)))) e ∙ text-listed ours ours-fit text in
       ap₂ (λ (y : Reading) (s : Study). record { check = y .check; line = y .line; study = s }) e same
 
   pub levels-read : {before after : List ℤ} {answer : Answer} {check : Check} → Answered (x .study) before after answer → check ≡ firstRefused (x .check) (answer .check)

@@ -27,11 +27,12 @@ use study::MOST_ENTRIES;
 use study::MOST_SEGMENTS;
 use study::PeriodResult;
 use study::Study;
+use study::empty;
+use study::extended;
 use study::levels_of;
 use study::no_entry;
 use study::no_segment;
 use study::segment_answer;
-use study::study_of;
 use study::train_answer;
 
 // How many bytes a text may have.
@@ -270,7 +271,7 @@ pub fn read_text(text: &[u8]) -> Reading
     Reading {
         check,
         line: lists.line,
-        study: study_of(segments, lists.count, entries, lists.total),
+        study: extended(empty(), segments, lists.count, entries, lists.total),
     }
 }
 
