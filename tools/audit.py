@@ -37,7 +37,10 @@ HELD = {
 }
 FILLED = {"target", "build", "__pycache__", ".git"}
 # Definitions that nothing cites yet and that stay all the same, with the reason.
-UNCITED = {}
+UNCITED = {
+    "factor-low": "for the fine level of a change request: what a factor takes off at least",
+    "factor-high": "for the fine level of a change request: what a factor takes off at most",
+}
 
 FUNCTION = re.compile(
     r"""^(?P<indent>[ \t]*)(?P<public>pub[ ])?(?:pub\(crate\)[ ])?(?:extern[ ]"C"[ ])?fn[ ](?P<name>\w+)

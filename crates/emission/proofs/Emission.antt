@@ -1,9 +1,8 @@
 -- A train's parts and their sum: as the code makes them, how far the sum lies from its fence and from zero.
 -- Assumes nothing.
-use mathlib.Core.Path.{_≡_, refl, sym, _∙_, ap, ap₂, subst}
-use mathlib.Core.Bool.{Bool, true, false, cond}
-use Prim.Native.Nat.{ℕ, _+_, _≤_, _<_}
-use native.Mathlib.Omega.{arith}
+use mathlib.Core.Path.{_≡_, refl, sym, _∙_, ap, subst}
+use mathlib.Core.Bool.{true, false}
+use Prim.Native.Nat.{_+_, _≤_, _<_}
 use lib.Dec.{lit<, lit≤}
 use lib.IntN.{ℤ, pos, _+ℤ_}
 use mir.Syntax.{w32}
@@ -16,7 +15,6 @@ use Rattle.figures.specs.declared.Train.{Train}
 use Rattle.figures.specs.declared.Period.{Period}
 use Rattle.figures.specs.declared.Period.the-variants.{Day, Night}
 use Rattle.figures.specs.declared.Refusal.{Refusal}
-use Rattle.figures.specs.declared.Check.{Check}
 use Rattle.figures.specs.declared.Check.the-variants.{Accepted, Refused}
 use Rattle.figures.specs.Refusal.{isAccepted}
 use Rattle.figures.specs.Rules.{trainCheck}
@@ -33,7 +31,7 @@ use Rattle.emission.specs.Results.{SmallLevel, Runs, TrainParted, Emits}
 use Rattle.emission.proofs.RollingFigures.{rolling-lies}
 use Rattle.emission.proofs.SpeedStep.{speed-lies}
 use Rattle.emission.proofs.VehiclesStep.{vehicles-lies}
-use Rattle.emission.proofs.TrainsStep.{runs, trains-lies}
+use Rattle.emission.proofs.TrainsStep.{trains-lies}
 
 -- ---- the parts
 

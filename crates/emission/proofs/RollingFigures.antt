@@ -3,7 +3,7 @@
 use mathlib.Core.Path.{_≡_, refl, sym, _∙_, ap, subst}
 use Prim.Native.Nat.{ℕ, _-_, _≤_}
 use native.Mathlib.Omega.{arith}
-use lib.Dec.{T, leb, leb→le, lit<, lit≤}
+use lib.Dec.{T, leb, leb→le, lit≤}
 use lib.IntN.{ℤ, pos}
 use lib.ListN.{length, getD}
 use mir.Syntax.{w32}

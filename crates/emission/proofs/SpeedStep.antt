@@ -1,6 +1,6 @@
 -- The speed step: as the code takes it, its fence, how far it lies from zero.
 -- Assumes nothing.
-use mathlib.Core.Path.{_≡_, sym, _∙_, ap, subst}
+use mathlib.Core.Path.{_≡_, sym, _∙_, ap}
 use Prim.Native.Nat.{ℕ, _+_, _*_, _≤_, _<_}
 use native.Mathlib.Nat.{le-trans, mul-le-mul}
 use native.Mathlib.Omega.{arith}
@@ -17,7 +17,7 @@ use Rattle.decibel.proofs.Exact.{fence-is}
 use Rattle.decibel.proofs.Fences.{fence-square, fence-add}
 use Rattle.figures.specs.declared.Train.{Train}
 use Rattle.figures.specs.Rules.{leastSpeed, mostSpeed}
-use Rattle.figures.specs.Bounds.{Below, Signed, Exactly, TrainRanged}
+use Rattle.figures.specs.Bounds.{Signed, Exactly, TrainRanged}
 use Rattle.figures.proofs.Signs.{read, below-more, natural-below, summand, summed}
 use Rattle.figures.proofs.Tenths.{tenth-below, tenths-of}
 use Rattle.figures.proofs.Lies.{lies-fence}

@@ -1,6 +1,6 @@
 -- The trains step: as the code takes it, its fence, how far it lies from zero; silent where no train runs.
 -- Assumes nothing.
-use mathlib.Core.Path.{_≡_, refl, sym, _∙_, ap, ap₂, subst}
+use mathlib.Core.Path.{_≡_, refl, sym, _∙_, ap}
 use mathlib.Core.Bool.{true}
 use Prim.Native.Nat.{ℕ, _*_, _≤_, _<_}
 use native.Mathlib.Omega.{arith}
@@ -13,7 +13,6 @@ use Rattle.decibel.specs.Ints.{up, dn}
 use Rattle.decibel.specs.Log.{AtLeast, fence}
 use Rattle.decibel.specs.Lookup.{tenLog, fenceAt, lowest, highest, tenthsAt, Tenth}
 use Rattle.decibel.specs.Round.{micro, nearest, IsFence}
-use Rattle.decibel.specs.declared.Level.{Level}
 use Rattle.decibel.specs.declared.Level.the-variants.{Silent, Figure}
 use Rattle.decibel.proofs.Ints.{add-is, neg-is, from-parts}
 use Rattle.decibel.proofs.Round.{micro-is, nearest-plus}
@@ -22,7 +21,7 @@ use Rattle.figures.specs.declared.Train.{Train}
 use Rattle.figures.specs.declared.Period.{Period}
 use Rattle.figures.specs.declared.Period.the-variants.{Day, Night}
 use Rattle.figures.specs.Rules.{mostTrains}
-use Rattle.figures.specs.Bounds.{Below, Signed, Exactly, TrainRanged}
+use Rattle.figures.specs.Bounds.{Signed, Exactly, TrainRanged}
 use Rattle.figures.proofs.Signs.{read, below-more, below-back, natural-below, less, less-fits, exactly-read}
 use Rattle.figures.proofs.Tenths.{tenth-below, tenths-of}
 use Rattle.figures.proofs.Lies.{lies-within, lies-less, lies-fence, fence-less}

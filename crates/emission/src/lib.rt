@@ -4,10 +4,9 @@ mod speed;
 mod trains;
 mod vehicles;
 
-ghost use mathlib.Core.Path.{_≡_};
 ghost use Rattle.figures.specs.Bounds.{Below, TrainRanged};
 ghost use Rattle.figures.specs.declared.Period.the-variants.{Day, Night};
-ghost use Rattle.emission.specs.Emission.{raised, trainPartsOf, noTrainParts, trainBreakdownOf, emissionOf};
+ghost use Rattle.emission.specs.Emission.{raised, trainPartsOf, trainBreakdownOf, emissionOf};
 ghost use Rattle.emission.specs.Results.{SmallLevel, TrainParted, Emits};
 use decibel::Level;
 use figures::Check;

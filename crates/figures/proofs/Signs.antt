@@ -53,14 +53,8 @@ sum-fits a b s t = record { sfits = omega (arith, mag-most (a +ℤ b), add-most 
 pub wide-sum : (a : ℤ) → SFits w32 a → SFits w64 (a +ℤ pos leastGap)
 wide-sum a f = record { sfits = omega (arith, mag-most (a +ℤ pos leastGap), add-most a (pos leastGap), size a (f .sfits)) }
 
-pub below-neg : {n : ℕ} {b : ℤ} → Below n b → Below n (negℤ b)
-below-neg {b = b} s = record { most = omega (arith, neg-is b, s .most, s .least); least = omega (arith, neg-is b, s .most, s .least) }
-
 pub below-back : {z : ℤ} → Below 1000000 z → read z ≡ z
 below-back {z} b = back z (omega (arith, mag-most z, b .most, b .least))
-
-pub below-read : {z : ℤ} → Below 1000000 z → Below 1000000 (read z)
-below-read b = rw (below-back b) b
 
 pub below-more : {m n : ℕ} {z : ℤ} → m ≤ n → Below m z → Below n z
 below-more h b = record { most = lt-of-lt-of-le (b .most) h; least = lt-of-lt-of-le (b .least) h }

@@ -6,7 +6,7 @@ use Prim.Native.Nat.{ℕ, zero, suc, _+_, _*_, _/_, _≤_, _<_}
 use native.Mathlib.Nat.{le-refl, le-trans, le-antisymm, le-of-lt, lt-irrefl, lt-of-lt-of-le, lt-of-le-of-lt, lt-of-not-le, mul-le-mul}
 use native.Mathlib.Decide.{decLe}
 use native.Mathlib.Omega.{arith}
-use lib.Dec.{T, leb, leb→le, le→leb, lit<, lit≤}
+use lib.Dec.{T, leb, leb→le, le→leb, lit≤}
 use lib.IntN.{ℤ, pos, negsuc, negℤ, subℕ, _+ℤ_, _-ℤ_}
 use lib.Signed.{_≤ℤ_}
 use mir.Syntax.{w32, w64}
@@ -20,7 +20,7 @@ use Rattle.decibel.proofs.Round.{tie-is, nearest-is, nearest-exact}
 use Rattle.figures.specs.declared.Segment.{Segment}
 use Rattle.figures.specs.Geometry.{squared, slant, slantSquare}
 use Rattle.figures.specs.Bounds.{Below, Signed, Exactly, Ranged}
-use Rattle.figures.proofs.Signs.{read, cast-read, natural-below, returned}
+use Rattle.figures.proofs.Signs.{read, cast-read, returned}
 use Rattle.figures.proofs.Squares.{squared-is}
 use Rattle.propagation.specs.Air.{rootUp, airFence, AirAtLeast}
 use Rattle.propagation.proofs.DistanceStep.{slant-is, slant-square-most}

@@ -12,7 +12,7 @@ use Rattle.figures.specs.declared.Check.{Check}
 use Rattle.figures.specs.declared.Check.the-variants.{Accepted, Refused}
 use Rattle.figures.specs.Geometry.{inShadow}
 use Rattle.figures.specs.Refusal.{unless, firstRefused}
-use Rattle.figures.specs.Rules.{unscreened, rangesThen, rangeCheck, readingsKept}
+use Rattle.figures.specs.Rules.{unscreened, rangeCheck, readingsKept}
 use Rattle.figures.proofs.Kept.{never, first-kept, rest-kept, ranges-first, ranged, readings-ranged}
 use Rattle.propagation.specs.Screen.{pathDifference, mostShadow, shadowKept}
 use Rattle.propagation.specs.Check.{segmentCheck}

@@ -1,7 +1,7 @@
 -- The distance step: the square of the slant distance as it is read, the step as the code takes it, its fence, how far it lies from zero.
 -- Assumes nothing.
 use mathlib.Core.Path.{_≡_, _∙_, ap, ap₂}
-use Prim.Native.Nat.{ℕ, _+_, _*_, _≤_}
+use Prim.Native.Nat.{ℕ, _+_, _≤_}
 use native.Mathlib.Nat.{le-trans, mul-le-mul}
 use native.Mathlib.Omega.{arith}
 use lib.Dec.{lit<, lit≤}

@@ -2,7 +2,7 @@
 -- Assumes nothing.
 use mathlib.Core.Path.{_≡_, refl, sym, _∙_, ap, ap₂, subst}
 use mathlib.Core.Bool.{Bool, true, false, cond}
-use Prim.Native.Nat.{ℕ, _+_, _-_, _*_, _^_, _≤_, _<_}
+use Prim.Native.Nat.{ℕ, _+_, _-_, _*_, _≤_, _<_}
 use native.Mathlib.Nat.{le-trans, lt-irrefl, lt-of-lt-of-le, lt-of-not-le, mul-le-mul}
 use native.Mathlib.Omega.{arith}
 use lib.Dec.{leb, lit<, lit≤}
@@ -28,7 +28,7 @@ use Rattle.figures.proofs.Lies.{lies-within, lies-fence}
 use Rattle.figures.proofs.Kept.{never}
 use Rattle.propagation.specs.Screen.{lengthOf, pathDifference, mostShadow, screenFormula, screenFence}
 use Rattle.propagation.specs.Private.{Differs, Length}
-use Rattle.propagation.proofs.DistanceStep.{read-distance, read-height, slant-is, slant-square-most}
+use Rattle.propagation.proofs.DistanceStep.{slant-square-most}
 
 -- ---- lengths
 
@@ -95,7 +95,7 @@ module _ {s : Segment} (g : Ranged s) where
   second-square e =
       e
       ∙ ap₂ slant (difference-read (s .distance) (s .setback) (from-below (lit< tt) (g .distance)) (from-below (lit< tt) setback-most))
-          (difference-read (s .height) (s .top) (signed-below (lit< tt) (lit< tt) (g .height)) (signed-below (lit< tt) (lit< tt) (g .top)))
+      (difference-read (s .height) (s .top) (signed-below (lit< tt) (lit< tt) (g .height)) (signed-below (lit< tt) (lit< tt) (g .top)))
 
   pub first-fits : slant (s .setback) (s .top) ≤ 1800000000
   first-fits = omega (arith, slant-most (s .setback) (s .top) 30000 7000 (omega (arith, setback-most .most, setback-most .sign)) (omega (arith, g .top .most, g .top .least)))

@@ -8,7 +8,7 @@ use lib.Dec.{lit<, lit≤}
 use lib.IntN.{ℤ, pos, _+ℤ_}
 use mir.Syntax.{w32}
 use mir.Val.{SFits}
-use Rattle.decibel.specs.Round.{micro, nearest, byMark, Near}
+use Rattle.decibel.specs.Round.{micro, nearest, Near}
 use Rattle.decibel.proofs.Round.{near-nearest, near-mark, near-exact, near-add}
 use Rattle.figures.specs.declared.Segment.{Segment}
 use Rattle.figures.specs.declared.Refusal.{Refusal}
@@ -16,7 +16,7 @@ use Rattle.figures.specs.declared.Check.{Check}
 use Rattle.figures.specs.declared.Check.the-variants.{Accepted, Refused}
 use Rattle.figures.specs.Refusal.{isAccepted}
 use Rattle.figures.specs.Rules.{within}
-use Rattle.figures.specs.Bounds.{Below, Signed, Exactly, ReadingsRanged}
+use Rattle.figures.specs.Bounds.{Below, Signed, Exactly}
 use Rattle.figures.proofs.Signs.{read, below-more, below-back, natural-below, from-below, signed-below, returned, exactly-read, Sum, summand, added, summed}
 use Rattle.figures.proofs.Lies.{lies-add, lies-within, lies-from, lies-micro, near-lies}
 use Rattle.propagation.specs.declared.SegmentBreakdown.{SegmentBreakdown}
@@ -28,7 +28,7 @@ use Rattle.propagation.specs.Opposite.{oppositeFence}
 use Rattle.propagation.specs.Check.{segmentCheck}
 use Rattle.propagation.specs.Ground.{pathFence, groundMark, SegmentMark, SegmentMarkBy}
 use Rattle.propagation.specs.Propagation.{facadeTenths, segmentPartsBy, noSegmentParts, segmentBreakdownBy, segmentBreakdownOf, addedUp, propagationOf, segmentFence}
-use Rattle.propagation.specs.Results.{PartsBelow, SegmentParted, Propagates}
+use Rattle.propagation.specs.Results.{SegmentParted, Propagates}
 use Rattle.propagation.specs.Private.{Ranges, PathTenths, Added}
 use Rattle.propagation.proofs.Chain.{ranges}
 use Rattle.propagation.proofs.DistanceStep.{distance-lies}
@@ -189,7 +189,7 @@ module _ {b v : SegmentBreakdown} (p : SegmentParted v b) {e : ℤ} (r : Added 8
   parts-add-up =
       distance-sum .is
       ∙ ap (λ (z : ℤ). b .distance +ℤ z)
-          (air-sum .is ∙ ap (λ (z : ℤ). b .air +ℤ z) (across-sum .is ∙ ap (λ (z : ℤ). b .angle +ℤ (b .opposite +ℤ (b .path +ℤ z))) (r .is)))
+      (air-sum .is ∙ ap (λ (z : ℤ). b .air +ℤ z) (across-sum .is ∙ ap (λ (z : ℤ). b .angle +ℤ (b .opposite +ℤ (b .path +ℤ z))) (r .is)))
 
   pub propagates : (s : Segment) → v ≡ segmentBreakdownOf s → Propagates (propagationOf s) (record { tenths = read (read (b .distance) +ℤ read beyond); close = b .close })
   unfolding propagationOf

@@ -1,7 +1,7 @@
 -- What contracts of this crate's private functions cite.
 -- Assumes nothing.
 use mathlib.Core.Path.{_≡_}
-use mathlib.Core.Bool.{Bool, true, false}
+use mathlib.Core.Bool.{true, false}
 use Prim.Native.Nat.{ℕ, _≤_, _<_}
 use lib.IntN.{ℤ, _+ℤ_}
 use lib.Signed.{mag}

@@ -16,8 +16,8 @@ use figures::Segment;
 use figures::Train;
 use figures::explain::Breakdown;
 use figures::explain::TrainBreakdown;
-use study::Study;
 use study::PeriodResult;
+use study::Study;
 
 fn segment_from(f: &[i32; 256]) -> Segment {
     Segment {

@@ -30,10 +30,6 @@ module _ {got check : Check} (e : got ≡ check) (old new : Study) where
   accepted-takes q = rw (← e, q)
 
 module _ {check : Check} (old new : Study) where
-  pub accepted-study : check ≡ Accepted → answer check old new .study ≡ new
-  unfolding answer
-  accepted-study q = rw q
-
   pub refused-study : {r : Refusal} → check ≡ Refused r → answer check old new .study ≡ old
   unfolding answer
   refused-study q = rw q

@@ -1,9 +1,9 @@
 -- Demand 3: how far rounding carries a total, for every list of additions.
 -- Assumes nothing.
-use mathlib.Core.Path.{_≡_, refl, sym, _∙_, ap, subst}
-use mathlib.Core.Bool.{Bool, true, false, _||_}
+use mathlib.Core.Path.{_≡_, refl, ap}
+use mathlib.Core.Bool.{true}
 use mathlib.Core.List.{List, [], _∷_}
-use Prim.Native.Nat.{ℕ, _+_, _≤_, _<_}
+use Prim.Native.Nat.{ℕ, _≤_, _<_}
 use native.Mathlib.Nat.{le-refl, le-trans, zero-lt-suc}
 use native.Mathlib.Omega.{arith}
 use lib.IntN.{ℤ}
@@ -12,7 +12,6 @@ use borrow.Author.Tests.{lt-ltb, le-leb}
 use Rattle.energy.proofs.Accurate.{accurate, accurate-sharp}
 use Rattle.figures.specs.declared.Period.{Period}
 use Rattle.figures.specs.declared.Period.the-variants.{Day, Night}
-use Rattle.figures.specs.declared.Check.{Check}
 use Rattle.figures.specs.declared.Check.the-variants.{Accepted}
 use Rattle.figures.specs.Refusal.{unless}
 use Rattle.study.specs.declared.Entry.{Entry}

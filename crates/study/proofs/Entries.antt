@@ -1,40 +1,35 @@
 -- The entries of a sound plan: each level near its fence, in the order of the entries, and so the total near the bare level.
 -- Assumes nothing.
-use mathlib.Core.Path.{_≡_, refl, sym, _∙_, ap, subst}
+use mathlib.Core.Path.{_≡_, refl}
 use mathlib.Core.Bool.{Bool, true, false, cond, _||_}
 use mathlib.Core.List.{List, [], _∷_, map}
-use Prim.Native.Nat.{ℕ, zero, suc, _+_, _*_, _-_, _≤_, _<_, zero-le, suc-le-suc}
-use native.Mathlib.Nat.{le-trans, le-refl, le-suc, lt-irrefl, zero-lt-suc}
+use Prim.Native.Nat.{ℕ, zero, suc, _-_, _≤_, _<_, zero-le, suc-le-suc}
+use native.Mathlib.Nat.{le-trans, le-suc, lt-irrefl, zero-lt-suc}
 use native.Mathlib.Omega.{arith}
-use lib.IntN.{ℤ, pos, negsuc, _+ℤ_}
-use lib.Signed.{_≤ℤ_, _<ℤ_}
+use lib.IntN.{ℤ}
 use lib.ListN.{length}
 use lib.Dec.{lit≤}
-use Rattle.decibel.specs.Round.{micro, byMark, Near}
-use Rattle.decibel.specs.declared.Level.{Level}
-use Rattle.decibel.specs.declared.Level.the-variants.{Silent, Figure}
+use Rattle.decibel.specs.Round.{byMark}
+use Rattle.decibel.specs.declared.Level.the-variants.{Figure}
 use Rattle.energy.specs.Energy.{added, BareLevel, bareAt}
 use Rattle.energy.specs.Total.{energies, totalBy}
 use Rattle.energy.specs.Accuracy.{Entries, none, next, AccurateTotal}
 use Rattle.energy.proofs.Accurate.{entries-bare}
 use Rattle.energy.proofs.Bare.{bare-same}
 use Rattle.figures.specs.declared.Segment.{Segment}
-use Rattle.figures.specs.declared.Train.{Train}
 use Rattle.figures.specs.declared.Period.{Period}
 use Rattle.figures.specs.declared.Period.the-variants.{Day, Night}
 use Rattle.figures.specs.declared.Check.the-variants.{Accepted}
-use Rattle.figures.specs.Rules.{trainCheck}
 use Rattle.propagation.specs.Check.{segmentCheck}
 use Rattle.emission.specs.Trains.{sounds}
 use Rattle.study.specs.Entry.{entryFence}
 use Rattle.study.proofs.EntryLevels.{near-entry, level-figure, level-silent, entry-loud}
 use Rattle.study.specs.declared.Entry.{Entry}
-use Rattle.study.specs.declared.request.PeriodResult.{PeriodResult}
 use Rattle.study.specs.Plan.{Plan, segmentAt}
 use Rattle.study.specs.Add.{Limits}
 use Rattle.study.specs.Run.{Each, EntryHeld, Held}
 use Rattle.study.specs.Run as Run
-use Rattle.study.specs.Levels.{Marks, markAt, totalMarkIn, levelAt, levelsOf, figures, limitOf, metBy, resultFrom, resultBy, closeSegments}
+use Rattle.study.specs.Levels.{Marks, markAt, totalMarkIn, levelAt, levelsOf, figures, limitOf, metBy, resultFrom, resultBy}
 use Rattle.study.proofs.Plans.{segment-kept}
 use Rattle.study.specs.Accuracy.{fencesOf, Bare, hasTrains, Band, AccurateToBare}
 

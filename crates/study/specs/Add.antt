@@ -1,6 +1,6 @@
 -- The additions to a study: what each answers, for every study and every figure (01, "Turned back").
 -- Assumes nothing.
-use mathlib.Core.Bool.{Bool, not}
+use mathlib.Core.Bool.{not}
 use Prim.Native.Nat.{ℕ, _+_, _-_}
 use lib.Dec.{leb, eqb}
 use lib.ListN.{set}

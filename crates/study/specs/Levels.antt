@@ -1,6 +1,5 @@
 -- The levels of a study's entries and a period's result, over lists, for a choice of close marks (01, "The steps").
 -- Assumes nothing.
-use mathlib.Core.Path.{_≡_}
 use mathlib.Core.Bool.{Bool, true, false, cond, _&&_, _||_}
 use mathlib.Core.List.{List, [], _∷_, map}
 use Prim.Native.Nat.{ℕ, suc, _+_, _<_}
@@ -16,8 +15,6 @@ use Rattle.energy.specs.Mark.{totalMark}
 use Rattle.figures.specs.declared.Segment.{Segment}
 use Rattle.figures.specs.declared.Period.{Period}
 use Rattle.figures.specs.declared.Period.the-variants.{Day, Night}
-use Rattle.figures.specs.Refusal.{isAccepted}
-use Rattle.propagation.specs.Check.{segmentCheck}
 use Rattle.propagation.specs.Ground.{SegmentMark}
 use Rattle.propagation.specs.Propagation.{propagationOf}
 use Rattle.emission.specs.Emission.{emissionOf}
@@ -114,7 +111,3 @@ unfoldable pub ownMarks : Plan → Marks
 ownMarks plan =
     let g = groundMarks plan in
     record { grounds = g .grounds; day = totalMark (figures (levelsOf Day plan g)); night = totalMark (figures (levelsOf Night plan g)) }
-
--- a period's result with them, for a plan alone
-unfoldable pub resultOf : Period → Plan → PeriodResult
-resultOf p plan = resultBy p plan (ownMarks plan)

@@ -5,7 +5,6 @@ use Prim.Native.Nat.{ℕ}
 use lib.IntN.{pos}
 use lib.ListN.{take, getD, replicate}
 use Rattle.figures.specs.declared.Segment.{Segment}
-use Rattle.figures.specs.declared.Train.{Train}
 use Rattle.study.specs.declared.Entry.{Entry}
 use Rattle.study.specs.declared.Study.{Study}
 

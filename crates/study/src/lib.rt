@@ -5,7 +5,6 @@ pub use request::Answer;
 pub use request::PeriodResult;
 pub use request::levels;
 pub use request::levels_of;
-
 ghost use mathlib.Core.Path.{_≡_};
 ghost use Prim.Native.Nat.{min};
 ghost use Rattle.study.specs.Plan.{noSegment, noEntry, emptyStudy, planOf, heldBy};

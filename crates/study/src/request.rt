@@ -238,11 +238,11 @@ fn cells_needed(total: usize) -> usize
 
 // The levels in the cells and both results, with `total` entries and cells enough.
 fn answered(
+    cells: &mut [i32],
     segments: [Segment; MOST_SEGMENTS],
     count: usize,
     entries: [Entry; MOST_ENTRIES],
     total: usize,
-    cells: &mut [i32],
 ) -> Answer
     requires { ⌜ Enough total (now cells) ⌝ }
     ensures { λ r. ⌜ (now (cells .exit) ≡ cellsAnswered (planOf (heldBy segments count entries total)) (ownMarks (planOf (heldBy segments count entries total))) (now (cells .entry))) × (r ≡ answerBy Check.Accepted (planOf (heldBy segments count entries total)) (ownMarks (planOf (heldBy segments count entries total)))) ⌝ }
@@ -281,7 +281,7 @@ pub fn levels_of(
     if cells.len() < cells_needed(rows) {
         return refusal_answer(Refusal::FewCells);
     }
-    answered(segments, count, entries, rows, cells)
+    answered(cells, segments, count, entries, rows)
 }
 
 // Both periods' results, with the entries' levels in the first cells; on a refusal the cells are as they were.

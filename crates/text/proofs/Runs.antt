@@ -1,10 +1,10 @@
 -- Every text's study is a run of additions: of its lines' additions in order where it is accepted, of none where it is refused. So what holds of every run holds of it.
 -- Assumes nothing.
 use mathlib.Core.Path.{_≡_, refl, sym, ap, _∙_}
-use Prim.Native.Nat.{ℕ, _+_, _≤_}
+use Prim.Native.Nat.{ℕ, _+_}
 use mathlib.Core.List.{List, [], _∷_, _++_}
 use mathlib.Core.Bool.{Bool, true, false, cond}
-use lib.ListN.{length, drop}
+use lib.ListN.{length}
 use lib.Dec.{leb}
 use Rattle.figures.specs.declared.Refusal.{Refusal}
 use Rattle.figures.specs.declared.Refusal.the-variants as R
@@ -17,7 +17,7 @@ use Rattle.study.specs.Run.{Addition, step, runFrom, run, LimitsFit, listed}
 use Rattle.study.proofs.Listed.{run-listed}
 use Rattle.text.specs.Lines.{segmentOf, trainOf}
 use Rattle.text.specs.Contents.{Read, refused, counts, contentsOf}
-use Rattle.text.specs.Text.{Line, ended, unended, linesOf, Kind, kindsOf, segmentAdds, trainAdds, addLine, acceptedWith, refusedAt, after, readLines, readBody, readFrom, readText}
+use Rattle.text.specs.Text.{Line, ended, unended, linesOf, Kind, kindsOf, segmentAdds, trainAdds, addLine, refusedAt, after, readLines, readBody, readFrom, readText}
 use Rattle.text.specs.Additions.{segmentAddition, trainAddition, lineAdditions, linesAdditions, bodyAdditions, additionsIn, additionsOf}
 use Rattle.text.specs.Text as K
 use Rattle.text.specs.declared.Reading.{Reading}
@@ -25,7 +25,7 @@ use Rattle.text.specs.declared.lines.SegmentLine.{SegmentLine}
 use Rattle.text.specs.declared.lines.SegmentLine.the-variants as S
 use Rattle.text.specs.declared.lines.TrainLine.{TrainLine}
 use Rattle.text.specs.declared.lines.TrainLine.the-variants as T
-use Rattle.text.proofs.Rest.{never, Rest, rest-done}
+use Rattle.text.proofs.Rest.{never}
 
 -- an accepted line is its addition
 line-runs : (l : Limits) (p : Kind) (st : Study) (x : Line) (rest : List Addition) → addLine l p st x .check ≡ Accepted

@@ -12,7 +12,6 @@ use Rattle.study.specs.Plan.{Plan, planOf}
 use Rattle.study.specs.Add.{ours}
 use Rattle.study.specs.Levels.{ownMarks, MarksAllowed}
 use Rattle.study.specs.Request.{levelsCheck, answerBy, cellsBy, silentResult}
-use Rattle.text.specs.declared.Reading.{Reading}
 use Rattle.text.specs.declared.TextAnswer.{TextAnswer}
 use Rattle.text.specs.Text.{readText}
 

@@ -14,14 +14,14 @@ ghost use Rattle.text.specs.Answer.{TextAnswered};
 ghost use Rattle.text.specs.Private.{opened, SegmentAt, TrainAt, faultOf};
 use contents::Contents;
 use contents::contents_of;
-use lines::SegmentLine;
-use lines::TrainLine;
-use lines::segment_of;
-use lines::train_of;
 use figures::Check;
 use figures::Refusal;
 use figures::Segment;
 use figures::Train;
+use lines::SegmentLine;
+use lines::TrainLine;
+use lines::segment_of;
+use lines::train_of;
 use study::Entry;
 use study::MOST_ENTRIES;
 use study::MOST_SEGMENTS;
@@ -57,10 +57,10 @@ pub struct TextAnswer {
 struct Lists {
     check: Check,
     line: usize,
-    segments: [Segment; MOST_SEGMENTS],
     count: usize,
-    entries: [Entry; MOST_ENTRIES],
     total: usize,
+    segments: [Segment; MOST_SEGMENTS],
+    entries: [Entry; MOST_ENTRIES],
 }
 
 // What a segment's line answers: the segment that it adds and where the next line starts, or why it is refused.
@@ -176,10 +176,10 @@ fn accepted(
     Lists {
         check: Check::Accepted,
         line: 0,
-        segments,
         count,
-        entries,
         total,
+        segments,
+        entries,
     }
 }
 
@@ -190,10 +190,10 @@ fn refused(refusal: Refusal, line: usize) -> Lists
     Lists {
         check: Check::Refused(refusal),
         line,
-        segments: [no_segment(); MOST_SEGMENTS],
         count: 0,
-        entries: [no_entry(); MOST_ENTRIES],
         total: 0,
+        segments: [no_segment(); MOST_SEGMENTS],
+        entries: [no_entry(); MOST_ENTRIES],
     }
 }
 

@@ -1,6 +1,5 @@
 -- `figures::first_refused` meets its contract.
 -- Assumes nothing.
-use mathlib.Core.Path.{sym, ap, _∙_}
 use borrow.Author.Needs.{needs}
 use Rattle.figures.specs.Refusal.{firstRefused}
 use Rattle.figures.proofs.first_refused.Statement.{statement}

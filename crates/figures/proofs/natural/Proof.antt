@@ -1,9 +1,7 @@
 -- `figures::natural` meets its contract.
 -- Assumes nothing.
-use mathlib.Core.Path.{_∙_, ap}
 use mir.Facts.{toZ-ofZ, sfits-widen}
 use mir.Syntax.{w32, w64}
-use Rattle.decibel.specs.Ints.{up}
 use Rattle.figures.proofs.natural.Statement.{statement}
 use Rattle.figures.proofs.natural.Tie as tie
 

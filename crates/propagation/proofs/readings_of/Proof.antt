@@ -1,6 +1,5 @@
 -- `propagation::readings_of` meets its contract.
 -- Assumes nothing.
-use borrow.Author.Needs.{needs}
 use lib.Dec.{lit≤}
 use Rattle.propagation.proofs.SegmentSum.{first-fits, second-fits, third-fits, four-read}
 use Rattle.propagation.proofs.readings_of.Statement.{statement}

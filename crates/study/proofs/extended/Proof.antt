@@ -1,7 +1,7 @@
 -- `study::extended` meets its contract. Both loops' invariants: what is still to be added makes the study of all additions.
 -- Assumes nothing.
 use native.Mathlib.Omega.{arith}
-use Prim.Native.Nat.{ℕ, _≤_, _<_, _-_}
+use Prim.Native.Nat.{_≤_, _<_, _-_}
 use mathlib.Core.Logic.{⊎-elim}
 use lib.ListN.{length}
 use Rattle.study.specs.Plan.{planOf, heldBy}
