@@ -4,7 +4,8 @@
     python3 tools/lines.py [REVISION]
 
 Without a revision the working tree is counted. Code is src/, definitions are specs/, proof is proofs/. Believed are the definitions but
-those of Private.antt, which only contracts of private functions cite. Blank lines, comments and imports are not counted.
+those of Private.antt, which only contracts of private functions cite (Parts.antt before the crate figures was made), and of Lists.antt,
+which tools/tables.py writes and a law holds against its formula. Blank lines, comments, imports and lists of modules are not counted.
 """
 import pathlib
 import re
@@ -18,6 +19,7 @@ UNCOUNTED = {
 }
 FOLDERS = {"src": (".rt", "code"), "specs": (".antt", "definitions"), "proofs": (".antt", "proof")}
 COLUMNS = ["code", "definitions", "believed", "proof"]
+NOT_BELIEVED = {"Private.antt", "Parts.antt", "Lists.antt"}
 
 
 def tree_files():
@@ -61,7 +63,7 @@ def table(files):
         row = crates.setdefault(path.parts[1], dict.fromkeys(COLUMNS, 0))
         lines = counted(suffix, text)
         row[column] += lines
-        if column == "definitions" and path.name != "Private.antt":
+        if column == "definitions" and path.name not in NOT_BELIEVED:
             row["believed"] += lines
     return crates
 
