@@ -1,7 +1,8 @@
 #!/usr/bin/env python3
 """Rules of the repository that no proof states: prints each place that breaks one, and then exits with 1.
 
-- a library's public function has an `ensures` and no `requires`, and docs/TRACE.md names it in backticks
+- a library's public function has an `ensures` and no `requires`, and a row in docs/TRACE.md with its contract and two wrong programs;
+  that page names every must-fail edit, and none that is not there
 - a function of the product has fewer than 40 lines, its contract not counted
 - an antt file has at most 300 lines
 - no six lines stand twice; blank lines, comments and imports are not counted
@@ -47,6 +48,8 @@ FUNCTION = re.compile(
         (?P<head>.*?)\{\n(?P<body>.*?)^(?P=indent)\}$""",
     re.M | re.S | re.X,
 )
+# A row of docs/TRACE.md on public functions: the crate and its functions, their contract, at least two wrong programs.
+TRACED = re.compile(r"^\| (?P<crate>\w+) (?P<names>`[^|]*) \| [^|]*`[^|]* \| (?P<wrong>[^|]*;[^|]*) \|$", re.M)
 CONTRACT = re.compile(r"^[ \t]+(?:requires|ensures)\b.*", re.M | re.S)
 # Lines that do not count as repeated, by the file's suffix.
 UNCOUNTED = {
@@ -69,7 +72,7 @@ def files(patterns):
     return sorted(path for path in found if not {"target", "build"} & set(path.parts) and path.as_posix() not in TABLES)
 
 
-def function_faults(path, trace):
+def function_faults(path):
     """What is wrong with a .rt file's functions."""
     crate = path.parts[1]
     library = not pathlib.Path("crates", crate, "src", "main.rt").exists()
@@ -86,11 +89,29 @@ def function_faults(path, trace):
                 yield f"{path}: public function {name} has a requires"
             if not re.search(r"^\s+ensures\b", stated, re.M):
                 yield f"{path}: public function {name} has no ensures"
-            if f"`{name}`" not in trace:
-                yield f"{path}: public function {name} is not in docs/TRACE.md"
         length = match[0].count("\n") + 1 - stated.count("\n")
         if length >= 40 and f"{crate} {name}" not in LONG:
             yield f"{path}: function {name} has {length} lines"
+
+
+def trace_faults():
+    """Public functions and must-fail edits that docs/TRACE.md leaves out or makes up."""
+    page = pathlib.Path("docs/TRACE.md").read_text()
+    crates = {path.name for path in pathlib.Path("crates").iterdir()}
+    edits = {f"{path.parts[1]}/{path.stem}" for path in pathlib.Path("crates").glob("*/must-fail/*.edit")}
+    named = {f"{crate}/{edit}" for crate, edit in re.findall(r"\b(\w+)/(\w+)\b(?![/.])", page) if crate in crates}
+    rows = set()
+    for match in TRACED.finditer(page.partition("## Public functions")[2]):
+        rows |= {(match["crate"], name) for name in re.findall(r"`(\w+)`", match["names"])}
+        kept = " ".join(re.findall(r"\(([^()]*)\)", match["wrong"]))
+        named |= {f"{match['crate']}/{edit}" for edit in re.findall(r"(?<![\w/])[a-z0-9]+(?:_[a-z0-9]+)+(?![\w/])", kept)}
+    for path in sorted(pathlib.Path("crates").glob("*/src/**/*.rt")):
+        crate = path.parts[1]
+        if not pathlib.Path("crates", crate, "src", "main.rt").exists():
+            public = {(crate, match["name"]) for match in FUNCTION.finditer(path.read_text()) if match["public"]}
+            yield from (f"{path}: public function {name} has no row in docs/TRACE.md" for _, name in sorted(public - rows))
+    yield from (f"docs/TRACE.md: there is no edit {edit}" for edit in sorted(named - edits))
+    yield from (f"docs/TRACE.md: edit {edit} is not named" for edit in sorted(edits - named))
 
 
 def counted_lines(path):
@@ -148,8 +169,8 @@ def idle_names():
 
 
 def main():
-    trace = pathlib.Path("docs/TRACE.md").read_text()
-    faults = [fault for path in files(["crates/*/src/**/*.rt"]) for fault in function_faults(path, trace)]
+    faults = [fault for path in files(["crates/*/src/**/*.rt"]) for fault in function_faults(path)]
+    faults += trace_faults()
     for path in files(["crates/**/*.antt"]):
         length = len(path.read_text().splitlines())
         if length > 300:
