@@ -1,10 +1,14 @@
 // A study: segments and train entries, added one after another and refused where document 01 says so.
+mod lists;
 mod request;
 
+pub use lists::entry_at;
+pub use lists::entry_count;
+pub use lists::segment_at;
+pub use lists::segment_count;
 pub use request::Answer;
 pub use request::PeriodResult;
 pub use request::levels;
-
 ghost use mathlib.Core.Path.{_≡_};
 ghost use Prim.Native.Nat.{min};
 ghost use Rattle.study.specs.Plan.{noSegment, noEntry, emptyStudy, planOf};
