@@ -36,13 +36,12 @@ loop-again c =
     let head = entry .before .before in
     let counted = head .before in
     let start = counted .before .before in
-    let v = head .loop in
-    (
+    let v = head .loop in (
       omega arith,
       v .inv .1,
       search needs,
       each-more (entryLine (planOf (start .args .study)) (start .args .cells .now)) (v .k) (v .inv .3)
-      (entry-put (planOf (start .args .study)) (start .args .cells .now) (v .k) (counted .entry-count .result) (number .number-of .ensures) (back (day .cell-at .result) (day .cell-at .ok) ∙ day .cell-at .ensures) (back (night .cell-at2 .result) (night .cell-at2 .ok) ∙ night .cell-at2 .ensures) (entry .entry-at .ensures) (counted .entry-count .ensures) (put .put-entry .ensures)),
+          (entry-put (planOf (start .args .study)) (start .args .cells .now) (v .k) (counted .entry-count .result) (number .number-of .ensures) (back (day .cell-at .result) (day .cell-at .ok) ∙ day .cell-at .ensures) (back (night .cell-at2 .result) (night .cell-at2 .ok) ∙ night .cell-at2 .ensures) (entry .entry-at .ensures) (counted .entry-count .ensures) (put .put-entry .ensures)),
     )
 
 same-length : tie.Need-same-length Inv-loop μ-loop
