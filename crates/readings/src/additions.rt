@@ -6,24 +6,13 @@ use figures::Train;
 use libc::STDOUT_FILENO;
 use study::Study;
 
-// A segment that keeps its lines but perhaps for its distance.
+// A segment that keeps its lines but perhaps for its distance. Its other figures are 0, as at a place that nothing was added to.
 fn plain_segment(distance: i32) -> Segment {
-    Segment {
-        distance,
-        height: 0,
-        mean: 0,
-        soft: 0,
-        view: 180,
-        doubled: 180,
-        screen: 0,
-        setback: 0,
-        top: 0,
-        chart: 0,
-        track: 0,
-        ballast: 0,
-        facade: 0,
-        opposite: 0,
-    }
+    let mut segment = study::segment_at(study::empty(), 0);
+    segment.distance = distance;
+    segment.view = 180;
+    segment.doubled = 180;
+    segment
 }
 
 // A train that keeps its lines but perhaps for its row.
@@ -92,25 +81,16 @@ fn show_trial(
     show(b"levels", asked);
 }
 
-pub(crate) fn show_each() {
-    let mut cells = [0i32; 192];
-    let mut few = [0i32; 3];
-    show_trial(
-        b"# Additions: a train after a refused segment\n",
-        0,
-        999,
-        0,
-        1,
-        &mut cells,
-    );
-    show_trial(b"# Additions: a 24th segment\n", 23, 1000, 0, 1, &mut cells);
+// 21, and that it comes before a segment's own refusal.
+fn show_segments(cells: &mut [i32]) {
+    show_trial(b"# Additions: a 24th segment\n", 23, 1000, 0, 1, cells);
     show_trial(
         b"# Additions: a 25th segment that keeps its lines\n",
         24,
         1000,
         0,
         1,
-        &mut cells,
+        cells,
     );
     show_trial(
         b"# Additions: a 25th segment of distance 999\n",
@@ -118,24 +98,40 @@ pub(crate) fn show_each() {
         999,
         0,
         1,
-        &mut cells,
+        cells,
     );
-    show_trial(b"# Additions: a 96th entry\n", 0, 1000, 95, 1, &mut cells);
+}
+
+// 20 and 22, and that they come before a train's own refusal.
+fn show_entries(cells: &mut [i32]) {
+    show_trial(
+        b"# Additions: a train after a refused segment\n",
+        0,
+        999,
+        0,
+        1,
+        cells,
+    );
+    show_trial(b"# Additions: a 96th entry\n", 0, 1000, 95, 1, cells);
     show_trial(
         b"# Additions: a 97th entry of row 0\n",
         0,
         1000,
         96,
         0,
-        &mut cells,
+        cells,
     );
+}
+
+// 23 and 24, in this order.
+fn show_requests(cells: &mut [i32], few: &mut [i32]) {
     show_trial(
         b"# Additions: a segment without an entry\n",
         0,
         1000,
         0,
         0,
-        &mut cells,
+        cells,
     );
     show_trial(
         b"# Additions: two entries with 3 cells\n",
@@ -143,14 +139,15 @@ pub(crate) fn show_each() {
         1000,
         1,
         1,
-        &mut few,
+        few,
     );
-    show_trial(
-        b"# Additions: no entry with 3 cells\n",
-        0,
-        999,
-        0,
-        1,
-        &mut few,
-    );
+    show_trial(b"# Additions: no entry with 3 cells\n", 0, 999, 0, 1, few);
+}
+
+pub(crate) fn show_each() {
+    let mut cells = [0i32; 192];
+    let mut few = [0i32; 3];
+    show_segments(&mut cells);
+    show_entries(&mut cells);
+    show_requests(&mut cells, &mut few);
 }

@@ -1,6 +1,5 @@
 -- `breakdown::level_of` meets its contract.
 -- Assumes nothing.
-use borrow.Author.Needs.{needs}
 use mir.Facts.{toZ-ofZ}
 use Rattle.breakdown.proofs.Parts.{cell-silent, cell-figure}
 use Rattle.breakdown.proofs.level_of.Statement.{statement}
