@@ -1,6 +1,11 @@
 // A study: segments and train entries, added one after another and refused where document 01 says so.
+mod lists;
 mod request;
 
+pub use lists::entry_at;
+pub use lists::entry_count;
+pub use lists::segment_at;
+pub use lists::segment_count;
 pub use request::Answer;
 pub use request::PeriodResult;
 pub use request::levels;

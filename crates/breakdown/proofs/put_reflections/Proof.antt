@@ -1,0 +1,27 @@
+-- `breakdown::put_reflections` meets its contract.
+-- Assumes nothing.
+use borrow.Author.Needs.{needs}
+use Rattle.writing.proofs.Pages.{alone, also-each}
+use Rattle.breakdown.specs.Lines.{reflectionParts}
+use Rattle.breakdown.proofs.Read.{segment-read}
+use Rattle.breakdown.proofs.Parts.{figure-as}
+use Rattle.breakdown.proofs.put_reflections.Statement.{statement}
+use Rattle.breakdown.proofs.put_reflections.Tie as tie
+
+returns : tie.Need-returns
+unfolding reflectionParts
+returns c =
+    let close = c .before .before in
+    let opposite = close .before .before .before .before in
+    let facade = opposite .before .before .before .before .before .before in
+    let start = facade .before .before .before .before .before in
+    let f = segment-read (start .args .b) (facade .before .struct-told .given) in
+    also-each (figure-as (f .facade) (facade .put-named .ensures))
+    (also-each (figure-as (f .opposite) (opposite .put-named2 .ensures)) (alone (close .put-close .ensures)))
+
+pub put-reflections-spec : {M : Type 1} → statement M
+put-reflections-spec =
+    tie.close
+    (tie.spec
+    (λ c. search needs) (λ c κs. search needs) (λ c. search needs) (λ c κs. search needs) (λ c κs. search needs)
+    (λ c. search needs) returns)

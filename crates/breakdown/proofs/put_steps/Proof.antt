@@ -1,0 +1,29 @@
+-- `breakdown::put_steps` meets its contract.
+-- Assumes nothing.
+use borrow.Author.Needs.{needs}
+use Rattle.writing.proofs.Pages.{also-each}
+use Rattle.breakdown.specs.Lines.{stepParts}
+use Rattle.breakdown.proofs.Read.{segment-read}
+use Rattle.breakdown.proofs.Parts.{figure-as}
+use Rattle.breakdown.proofs.put_steps.Statement.{statement}
+use Rattle.breakdown.proofs.put_steps.Tie as tie
+
+returns : tie.Need-returns
+unfolding stepParts
+returns c =
+    let angle = c .before .before in
+    let path = angle .before .before .before .before .before .before in
+    let air = path .before .before .before .before .before in
+    let distance = air .before .before .before .before .before .before in
+    let start = distance .before .before .before .before .before in
+    let f = segment-read (start .args .b) (distance .before .struct-told .given) in
+    also-each (figure-as (f .distance) (distance .put-named .ensures))
+    (also-each (figure-as (f .air) (air .put-named2 .ensures))
+    (also-each (rw (f .path) at (path .put-path .ensures)) (figure-as (f .angle) (angle .put-named3 .ensures))))
+
+pub put-steps-spec : {M : Type 1} → statement M
+put-steps-spec =
+    tie.close
+    (tie.spec
+    (λ c. search needs) (λ c κs. search needs) (λ c. search needs) (λ c κs. search needs) (λ c κs. search needs)
+    (λ c. search needs) (λ c κs. search needs) (λ c. search needs) returns)
