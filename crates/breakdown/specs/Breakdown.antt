@@ -9,7 +9,8 @@ use Rattle.study.specs.Plan.{Plan, noEntry, segmentAt}
 use Rattle.study.specs.Levels.{MarksAllowed, ownMarks}
 use Rattle.study.specs.Request.{levelsCheck, cellsBy}
 use Rattle.writing.specs.Pages.{PutEach}
-use Rattle.report.specs.Report.{planIn, cellsLent, reportOf}
+use Rattle.text.specs.Answer.{planIn}
+use Rattle.report.specs.Report.{cellsLent, reportOf}
 use Rattle.breakdown.specs.Lines.{segmentParts, numberAt, entryParts}
 
 -- the parts of what stands at the first n places, one place after another

@@ -42,7 +42,7 @@ unfoldable pub GroundMark : Segment → Bool → Type 0
 GroundMark s mark = GroundMarkBy (grounded s) s mark
 
 -- what a mark gives of the step, r tenths: where ground counts, the louder neighbour or the nearest of its exact value; else there is no mark, and it is the nearest.
--- Every allowed mark gives it: `ground-settled` of proofs/GroundStep.antt
+-- Every allowed mark gives it: `ground-settled` of proofs/GroundMark.antt
 unfoldable pub GroundSettledBy : Bool → Segment → Bool → ℤ → Type 0
 GroundSettledBy true s mark r = Settled (AtLeast 0 (groundFactor s) 2500 (up (s .distance))) (AtMost 0 (groundFactor s) 2500 (up (s .distance))) mark r
 GroundSettledBy false s mark r = (mark ≡ false) × (r ≡ nearest (pathFence s))
@@ -60,7 +60,7 @@ attenuation s = (fineLogAt (4 * up (s .distance)) - 40000000) * groundFactor s /
 abbrev pub isClose : ℕ → Bool
 isClose a = leb 48500 (a % 100000) && leb (a % 100000) 51500
 
--- the program's own mark: that attenuation lies so close (`ground-mark-allowed` of proofs/GroundStep.antt: it is a `GroundMark`)
+-- the program's own mark: that attenuation lies so close (`ground-mark-allowed` of proofs/GroundMark.antt: it is a `GroundMark`)
 unfoldable pub groundMark : Segment → Bool
 groundMark s = cond (grounded s) (isClose (attenuation s)) false
 
