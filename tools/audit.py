@@ -24,7 +24,7 @@ LONG = {
     "words put_words": "an arm for each refusal, whose words are one long line",
 }
 # Written by tools/tables.py: a table's function has an arm for each entry.
-TABLES = {"crates/decibel_tables/src/lib.rt", "crates/energy_tables/src/lib.rt"}
+TABLES = {"crates/small_logs/src/lib.rt", "crates/decibel_tables/src/lib.rt", "crates/energy_tables/src/lib.rt"}
 
 # What a folder holds, by suffix or name. Folders that a build or git fills are left out.
 HELD = {

@@ -1,6 +1,6 @@
 #!/usr/bin/env python3
-"""Writes the crates decibel_tables and energy_tables from their formulas: each table as a list of specs/Lists.antt, as a function of
-an index in src/lib.rt, and that function's proof.
+"""Writes the crates small_logs, decibel_tables and energy_tables from their formulas: each table as a list of specs/Lists.antt, as a
+function of an index in src/lib.rt, and that function's proof.
 
 Every entry is settled in whole numbers. A decimal estimate only says where to look: an entry is kept when it passes its test and
 its neighbour does not, by powers of whole numbers. With --check nothing is written; the committed files are compared.
@@ -69,6 +69,16 @@ def sine(degrees):
     return floor(sum(terms) * 10**9 + Fraction(1, 2))
 
 
+def ten_log(n):
+    """10·log n in tenths, to the nearest, halves up; of 0 that of 1."""
+    n = max(n, 1)
+    return greatest(lambda t: t == 0 or 10 ** (2 * t - 1) <= n**200, 100 * Decimal(n).log10())
+
+
+def small_logs():
+    return [("small_log", "10 log n in tenths for n below 200, of 0 that of 1", [ten_log(n) for n in range(200)])]
+
+
 def decibel_tables():
     return [
         ("decade", "Where each tenth of 10 log n begins, from 85.1 to 95.2 dB", rising(200, 1, 2, 2, 1703, 3_200_000_000)),
@@ -93,10 +103,11 @@ def energy_tables():
     ]
 
 
-# each crate's tables, and those of them that are searched, by number
+# each crate's tables, what their functions answer, and those of them that are searched, by number
 CRATES = {
-    "decibel_tables": (decibel_tables, ["decade", "shadow", "distance", "illuminated", "fine"]),
-    "energy_tables": (energy_tables, []),
+    "small_logs": (small_logs, "u32", []),
+    "decibel_tables": (decibel_tables, "u64", ["decade", "shadow", "distance", "illuminated", "fine"]),
+    "energy_tables": (energy_tables, "u64", []),
 }
 WRITTEN = "written by tools/tables.py from the formulas, in whole numbers."
 
@@ -134,7 +145,7 @@ def lists(tables, searched):
     return text
 
 
-def source(crate, tables, searched):
+def source(crate, tables, answer, searched):
     cited = [listed(name) for name, _, _ in tables] + (["listOf"] if searched else [])
     text = "// Tables as functions of an index: constants that the compiler keeps, so that nobody builds or lends them.\n"
     text += f"// {WRITTEN.capitalize()}\n\n"
@@ -142,11 +153,11 @@ def source(crate, tables, searched):
     text += f"ghost use Rattle.{crate}.specs.Lists.{{{', '.join(cited)}}};\n"
     for name, says, values in tables:
         arms = "".join(f"        {i} => {value},\n" for i, value in enumerate(values))
-        text += f"\n// {says}; 0 past the last.\npub fn {name}(i: usize) -> u64\n    ensures {{ λ r. ⌜ r ≡ getD {listed(name)} i 0 ⌝ }}\n"
+        text += f"\n// {says}; 0 past the last.\npub fn {name}(i: usize) -> {answer}\n    ensures {{ λ r. ⌜ r ≡ getD {listed(name)} i 0 ⌝ }}\n"
         text += f"{{\n    match i {{\n{arms}        _ => 0,\n    }}\n}}\n"
     if searched:
         arms = "".join(f"        {number} => {name}(i),\n" for number, name in enumerate(searched))
-        text += "\n// Entry i of a table by its number, as the arms say; 0 of any other.\npub fn entry(table: usize, i: usize) -> u64\n"
+        text += "\n// Entry i of a table by its number, as the arms say; 0 of any other.\npub fn entry(table: usize, i: usize) -> %s\n" % answer
         text += f"    ensures {{ λ r. ⌜ r ≡ getD (listOf table) i 0 ⌝ }}\n{{\n    match table {{\n{arms}        _ => 0,\n    }}\n}}\n"
     return text
 
@@ -165,9 +176,9 @@ def proof(crate, name, values):
 
 def files():
     """Every file that is written, with its text."""
-    for crate, (made, searched) in CRATES.items():
+    for crate, (made, answer, searched) in CRATES.items():
         tables = made()
-        yield f"crates/{crate}/src/lib.rt", source(crate, tables, searched)
+        yield f"crates/{crate}/src/lib.rt", source(crate, tables, answer, searched)
         yield f"crates/{crate}/specs/Lists.antt", lists(tables, searched)
         for name, _, values in tables:
             yield f"crates/{crate}/proofs/{name}/Proof.antt", proof(crate, name, values)
