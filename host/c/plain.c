@@ -193,17 +193,12 @@ static void work_out_segment(segment *s)
     s->tenths += (int)(n[CHART] + n[TRACK] + n[BALLAST]) + (n[FACADE] ? 25 : 0);
 }
 
-/* After the reading, so that a refused text costs its reading alone; once for both periods. */
-static void work_out(study *s)
+/* An entry's tenths, once for both periods. */
+static void work_out_entry(const study *s, entry *e)
 {
-    for (int i = 0; i < s->segment_count; i++)
-        work_out_segment(&s->segments[i]);
-    for (int i = 0; i < s->entry_count; i++) {
-        entry *e = &s->entries[i];
-        e->tenths = s->segments[e->segment].tenths + vehicle_table[e->row - 1];
-        e->tenths += nearest_tenth(31.2 + 20.0 * log10((double)e->speed));
-        e->tenths += nearest_tenth(10.0 * log10((double)e->vehicles));
-    }
+    e->tenths = s->segments[e->segment].tenths + vehicle_table[e->row - 1];
+    e->tenths += nearest_tenth(31.2 + 20.0 * log10((double)e->speed));
+    e->tenths += nearest_tenth(10.0 * log10((double)e->vehicles));
 }
 
 /* The text with a zero byte after it; 0 when the study is read, else the refusal with its line. */
@@ -236,6 +231,7 @@ static uint32_t read_study(const char *text, const char *end, study *s, uint32_t
         uint32_t refusal = segment_refusal(s->segments[i].n);
         if (refusal)
             return refusal;
+        work_out_segment(&s->segments[i]);
         for (long k = 0; k < contents[i + 1]; k++) {
             ++*line;
             if (text == end)
@@ -244,7 +240,8 @@ static uint32_t read_study(const char *text, const char *end, study *s, uint32_t
                 return 12;
             if ((refusal = entry_refusal(n)))
                 return refusal;
-            s->entries[s->entry_count++] = (entry){ i, n[0], n[1], n[2], { n[3], n[4] }, 0 };
+            s->entries[s->entry_count] = (entry){ i, n[0], n[1], n[2], { n[3], n[4] }, 0 };
+            work_out_entry(s, &s->entries[s->entry_count++]);
         }
     }
     ++*line;
@@ -296,7 +293,6 @@ railnoise_answer LEVELS(const uint8_t *text, size_t text_length, int32_t *cells,
         answer.refusal = 24;
         return answer;
     }
-    work_out(&s);
     answer.day = period_result(&s, 0, cells);
     answer.night = period_result(&s, 1, cells + s.entry_count);
     return answer;
