@@ -1,13 +1,13 @@
 -- Laws of the parts of a line: a figure as a call is given it, a level by its case, and a step by its name.
 -- Assumes nothing.
-use mathlib.Core.Path.{_≡_, refl}
+use mathlib.Core.Path.{_≡_, refl, ap}
 use mathlib.Core.Bool.{Bool, true, false, cond}
 use mathlib.Core.List.{List}
 use Prim.Native.Nat.{ℕ, _+_, _<_, _≤_}
 use native.Mathlib.Numerals.{add-one}
 use borrow.Author.Tests.{lt-ltb, le-ltb}
 use lib.IntN.{ℤ, pos, negsuc}
-use lib.ListN.{length, replicate}
+use lib.ListN.{length, getD, replicate}
 use lib.Signed.{ltZ}
 use Rattle.decibel.specs.declared.Level.{Level}
 use Rattle.decibel.specs.declared.Level.the-variants.{Silent, Figure}
@@ -18,7 +18,7 @@ use Rattle.study.specs.declared.Entry.{Entry}
 use Rattle.study.specs.declared.Study.{Study}
 use Rattle.study.specs.declared.request.Answer.{Answer}
 use Rattle.study.specs.Add.{ours}
-use Rattle.study.specs.Plan.{Plan, planOf}
+use Rattle.study.specs.Plan.{Plan, planOf, noSegment, noEntry}
 use Rattle.study.specs.Levels.{ownMarks}
 use Rattle.study.specs.Request.{AnsweredBy}
 use Rattle.text.specs.Text.{readText}
@@ -27,7 +27,7 @@ use Rattle.writing.specs.Pages.{putEach, Put, PutEach}
 use Rattle.writing.proofs.Pages.{alone, also, also-each}
 use Rattle.report.specs.Bytes.{level}
 use Rattle.report.specs.Report.{cellsLent, reportOf}
-use Rattle.breakdown.specs.Lines.{figurePart, levelPart, pathPart, cellLevel, numberAt, entryParts}
+use Rattle.breakdown.specs.Lines.{figurePart, levelPart, pathPart, cellLevel, segmentParts, numberAt, entryParts}
 use Rattle.breakdown.specs.Breakdown.{eachBelow, segmentsParts, cellsOf, entryAt, cellAt, entryLine, entriesParts, studyParts, textParts}
 
 pub silent-put : {before mid after name : List ℕ} {at i end : ℕ} {l : Level}
@@ -92,6 +92,16 @@ pub each-more : (parts : ℕ → List (List ℕ)) (k : ℕ) {before mid after : 
     → PutEach before at (eachBelow (k + 1) parts) after end
 unfolding eachBelow
 each-more parts k p q = rw (add-one k) (also-each p q)
+
+-- the lines of a plan are those of its segments, and of its entries
+pub segments-same : (p q : Plan) → p .segments ≡ q .segments → segmentsParts p ≡ segmentsParts q
+unfolding segmentsParts
+segments-same p q e = ap (λ (ss : List Segment). eachBelow (length ss) (λ k. segmentParts (k + 1) (getD ss k noSegment))) e
+
+pub entries-same : (p q : Plan) (cells : List ℤ) → p .entries ≡ q .entries → entriesParts p cells ≡ entriesParts q cells
+unfolding entriesParts
+entries-same p q cells e =
+    ap (λ (es : List Entry). eachBelow (length es) (λ k. entryParts (k + 1) (numberAt (getD es k noEntry .segment)) (getD es k noEntry .train) (cellAt cells k) (cellAt cells (length es + k)))) e
 
 -- an entry's line, from what was found of it
 pub entry-put : (plan : Plan) (cells : List ℤ) (k count : ℕ) {number : ℕ} {day night : ℤ} {e : Entry} {before after : List ℕ} {at end : ℕ}

@@ -173,11 +173,13 @@ fn put_entry(
 fn put_segments(study: Study, out: &mut [u8], start: usize) -> usize
     ensures { λ r. ⌜ PutEach (now (out .entry)) start (segmentsParts (planOf study)) (now (out .exit)) r ⌝ }
 {
-    let count = study::segment_count(study);
+    let held = study::holdings_of(study);
+    let count = held.count;
+    let segments = held.segments;
     let mut at = start;
     let mut k: usize = 0;
     while k < count {
-        let segment = study::segment_at(study, k);
+        let segment = segments[k];
         at = put_segment(out, at, k + 1, segment);
         k += 1;
     }
@@ -198,11 +200,13 @@ fn number_of(k: usize) -> usize
 fn put_entries(study: Study, cells: &[i32], out: &mut [u8], start: usize) -> usize
     ensures { λ r. ⌜ PutEach (now (out .entry)) start (entriesParts (planOf study) (now (cells .entry))) (now (out .exit)) r ⌝ }
 {
-    let count = study::entry_count(study);
+    let held = study::holdings_of(study);
+    let count = held.total;
+    let entries = held.entries;
     let mut at = start;
     let mut k: usize = 0;
     while k < count {
-        let entry = study::entry_at(study, k);
+        let entry = entries[k];
         let train = entry.train;
         let day = cell_at(cells, k);
         let night = cell_at(cells, count + k);

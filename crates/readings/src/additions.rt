@@ -8,7 +8,7 @@ use study::Study;
 
 // A segment that keeps its lines but perhaps for its distance. Its other figures are 0, as at a place that nothing was added to.
 fn plain_segment(distance: i32) -> Segment {
-    let mut segment = study::segment_at(study::empty(), 0);
+    let mut segment = study::no_segment();
     segment.distance = distance;
     segment.view = 180;
     segment.doubled = 180;

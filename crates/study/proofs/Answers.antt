@@ -4,8 +4,6 @@ use mathlib.Core.Path.{_≡_, sym, ap, ap₂, _∙_}
 use mathlib.Core.List.{List, _++_, append-assoc}
 use mathlib.Core.Bool.{Bool}
 use Prim.Native.Nat.{ℕ, _+_, _<_, _≤_, min}
-use native.Mathlib.Nat.{min-eq-left, lt-of-not-le}
-use native.Mathlib.Decide.{decLe}
 use native.Mathlib.Omega.{arith}
 use borrow.Author.Tests.{lt-ltb, le-ltb, le-leb, lt-leb}
 use lib.IntN.{ℤ}
@@ -25,7 +23,7 @@ use Rattle.study.specs.Plan.{Plan, planOf, heldBy}
 use Rattle.study.specs.Levels.{levelsOf, levelAt, ownMarks}
 use Rattle.study.specs.Request.{cellsNeeded, levelsCheck, cellsBy, cellsAnswered, answerBy, refusedBy, Answered}
 use Rattle.study.specs.Private.{cellsOf, placesOf, Propagated, Filled, periodFrom}
-use Rattle.study.proofs.Sizes.{taken-length}
+use Rattle.study.proofs.Sizes.{taken-length, take-min}
 use Rattle.study.proofs.Cells.{cells-length, cells-found}
 use Rattle.study.proofs.Results.{period-is, own-allowed}
 
@@ -118,13 +116,6 @@ module _ {plan : Plan} {t : ℕ} (count : t ≡ length (plan .entries)) {tenths 
       rw (day, night)
 
 -- ---- of what arrays hold
-
-take-min : {A : Type 0} (t : ℕ) (xs : List A) → take (min t (length xs)) xs ≡ take t xs
-take-min t xs = go (decLe t (length xs))
-  where
-    go : Dec (t ≤ length xs) → take (min t (length xs)) xs ≡ take t xs
-    go (yes h) = ap (λ (k : ℕ). take k xs) (min-eq-left h)
-    go (no f) = let h : length xs ≤ t = omega (arith, lt-of-not-le f) in take-all (min t (length xs)) xs (omega arith) ∙ sym (take-all t xs h)
 
 module _ (segments : List Segment) (n : ℕ) (entries : List Entry) (t : ℕ) where
   pub held-rows : t ≤ length entries → t ≡ length (planOf (heldBy segments n entries t) .entries)

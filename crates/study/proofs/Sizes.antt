@@ -1,18 +1,23 @@
 -- How many segments and entries a study's plan has, and what stands at their places.
 -- Assumes nothing.
-use mathlib.Core.Path.{_≡_, sym, ap, _∙_}
+use mathlib.Core.Path.{_≡_, sym, ap, ap₂, _∙_}
 use mathlib.Core.List.{List, [], _∷_}
 use Prim.Native.Nat.{ℕ, _<_, _≤_, min}
+use native.Mathlib.Nat.{min-eq-left, lt-of-not-le}
+use native.Mathlib.Decide.{decLe}
 use native.Mathlib.Omega.{arith}
 use lib.ListN.{length, getD, take, length-take, length-map}
-use lib.Seq.{getD-take}
+use lib.Seq.{getD-take, take-all}
 use denote.Laws.{Is}
 use denote.Struct.Declared.{row}
 use denote.Struct.Laws.{val}
+use Rattle.figures.specs.declared.Segment.{Segment}
+use Rattle.study.specs.declared.Entry.{Entry}
 use Rattle.study.specs.declared.Study.{Study}
+use Rattle.study.specs.declared.lists.Holdings.{Holdings}
 use Rattle.study.proofs.Study.{the-type as study-type}
 use Rattle.study.proofs.Study.Laws.{the-laws as study-laws}
-use Rattle.study.specs.Plan.{planOf, segmentAt, noSegment, noEntry}
+use Rattle.study.specs.Plan.{Plan, planOf, heldBy, Opens, segmentAt, noSegment, noEntry}
 
 -- what the borrow checker gives of a study that is passed by value
 abbrev pub Passed : Study → Type 0
@@ -30,6 +35,17 @@ taken-length xs n size r e h = h ∙ ap (min n) (sym e) ∙ sym (length-take n x
 
 taken-most : {A : Type 0} (xs : List A) (n i : ℕ) → i < length (take n xs) → i < n
 taken-most xs n i h = omega (arith, length-take n xs)
+
+pub take-min : {A : Type 0} (t : ℕ) (xs : List A) → take (min t (length xs)) xs ≡ take t xs
+take-min t xs = go (decLe t (length xs))
+  where
+    go : Dec (t ≤ length xs) → take (min t (length xs)) xs ≡ take t xs
+    go (yes h) = ap (λ (k : ℕ). take k xs) (min-eq-left h)
+    go (no f) = let h : length xs ≤ t = omega (arith, lt-of-not-le f) in take-all (min t (length xs)) xs (omega arith) ∙ sym (take-all t xs h)
+
+-- no more is taken by the number that there is
+taken-again : {A : Type 0} (xs : List A) (n : ℕ) {r : ℕ} → r ≡ length (take n xs) → take r xs ≡ take n xs
+taken-again xs n {r} e = ap (λ (k : ℕ). take k xs) (e ∙ length-take n xs) ∙ take-min n xs
 
 pub taken-at : {A : Type 0} (xs : List A) (n i : ℕ) (d : A) → i < length (take n xs) → getD (take n xs) i d ≡ getD xs i d
 taken-at xs n i d h = getD-take n xs i d (taken-most xs n i h)
@@ -51,6 +67,18 @@ module _ (st : Study) (passed : Passed st) where
   unfolding planOf
   few-entries = omega (arith, entries-size st passed, length-take (st .total) (st .entries))
 
+-- a study's own arrays and counts, as far as they reach, open it
+pub opens : (st : Study) → Passed st → {count total : ℕ} → count ≡ min (st .count) 24 → total ≡ min (st .total) 96 → Opens st (record { count = count; total = total; segments = st .segments; entries = st .entries })
+unfolding planOf
+opens st passed {count} {total} c t =
+    let few = plan-count st passed c in
+    let rows = plan-total st passed t in
+    record {
+      plan = ap₂ (λ (ss : List Segment) (es : List Entry). record { segments = ss; entries = es }) (taken-again (st .segments) (st .count) few) (taken-again (st .entries) (st .total) rows);
+      count = few;
+      total = rows;
+    }
+
 module _ (st : Study) where
   pub plan-segment : (k : ℕ) → k < length (planOf st .segments) → segmentAt (planOf st) k ≡ getD (st .segments) k noSegment
   unfolding planOf
@@ -59,3 +87,14 @@ module _ (st : Study) where
   pub plan-entry : (i : ℕ) → i < length (planOf st .entries) → getD (planOf st .entries) i noEntry ≡ getD (st .entries) i noEntry
   unfolding planOf
   plan-entry i h = taken-at (st .entries) (st .total) i noEntry h
+
+-- ---- of what another crate reads
+
+module _ {st : Study} {r : Holdings} (o : Opens st r) where
+  pub opened-segments : planOf (heldBy (r .segments) (r .count) [] 0) .segments ≡ planOf st .segments
+  unfolding planOf
+  opened-segments = ap (λ (p : Plan). p .segments) (o .plan)
+
+  pub opened-entries : planOf (heldBy [] 0 (r .entries) (r .total)) .entries ≡ planOf st .entries
+  unfolding planOf
+  opened-entries = ap (λ (p : Plan). p .entries) (o .plan)

@@ -1,12 +1,14 @@
 -- What a study holds (01, "The study"): its segments and its train entries in order, each entry with the place of its segment.
 -- Assumes nothing.
+use mathlib.Core.Path.{_≡_}
 use mathlib.Core.List.{List, []}
 use Prim.Native.Nat.{ℕ}
 use lib.IntN.{pos}
-use lib.ListN.{take, getD, replicate}
+use lib.ListN.{length, take, getD, replicate}
 use Rattle.figures.specs.declared.Segment.{Segment}
 use Rattle.study.specs.declared.Entry.{Entry}
 use Rattle.study.specs.declared.Study.{Study}
+use Rattle.study.specs.declared.lists.Holdings.{Holdings}
 
 pub record Plan : Type 0 where
   pub segments : List Segment
@@ -33,6 +35,12 @@ planOf st = record { segments = take (st .count) (st .segments); entries = take 
 -- the study value that holds the first so many of some segments and entries
 abbrev pub heldBy : List Segment → ℕ → List Entry → ℕ → Study
 heldBy segments count entries total = record { segments = segments; count = count; entries = entries; total = total }
+
+-- what another crate reads of a study: its plan, at places that the arrays have
+pub record Opens (st : Study) (r : Holdings) : Type 0 where
+  pub plan : planOf (heldBy (r .segments) (r .count) (r .entries) (r .total)) ≡ planOf st
+  pub count : r .count ≡ length (planOf st .segments)
+  pub total : r .total ≡ length (planOf st .entries)
 
 unfoldable pub emptyStudy : Study
 emptyStudy = record { segments = replicate 24 noSegment; count = 0; entries = replicate 96 noEntry; total = 0 }

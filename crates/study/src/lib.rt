@@ -2,10 +2,8 @@
 mod lists;
 mod request;
 
-pub use lists::entry_at;
-pub use lists::entry_count;
-pub use lists::segment_at;
-pub use lists::segment_count;
+pub use lists::Holdings;
+pub use lists::holdings_of;
 pub use request::Answer;
 pub use request::PeriodResult;
 pub use request::levels;
