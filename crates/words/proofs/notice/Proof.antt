@@ -7,15 +7,29 @@ use Rattle.words.proofs.Notices.{notice-front}
 use Rattle.words.proofs.notice.Statement.{statement}
 use Rattle.words.proofs.notice.Tie as tie
 
+-- how the places of the code follow one another
+abbrev worded : tie.After-put3 → tie.After-put-words
+worded c = c .before .before .before .before
+
+abbrev parted : tie.After-put3 → tie.After-put2
+parted c = worded c .before .before .before
+
+abbrev refused : tie.After-put3 → tie.After-put-refused
+refused c = parted c .before .before .before .before
+
+abbrev named : tie.After-put3 → tie.After-put
+named c = refused c .before .before .before
+
+abbrev start-of : tie.After-put3 → tie.Start
+start-of c = named c .before .before .before .before
+
 -- the five parts stand at the front of `told`
-composed : (c : tie.After-put3) → AtFront (noticeOf (c .before .before .before .before .before .before .before .before .before .before .before .before .before .before .before .before .before .before .args .refusal) (c .before .before .before .before .before .before .before .before .before .before .before .before .before .before .before .before .before .before .args .line)) (c .put3 .last .0) (c .put3 .result)
+composed : (c : tie.After-put3) → AtFront (noticeOf (start-of c .args .refusal) (start-of c .args .line)) (c .put3 .last .0) (c .put3 .result)
 composed c =
-    let start = c .before .before .before .before .before .before .before .before .before .before .before .before .before .before .before .before .before .before in
+    let start = start-of c in
     notice-front (start .args .refusal) (start .args .line) (start .fits .line .fits) (search needs)
-    (also (c .before .before .before .before .before .before .before .before .before .before .before .before .before .before .put .ensures)
-    (also (c .before .before .before .before .before .before .before .before .before .before .before .put-refused .ensures)
-    (also (c .before .before .before .before .before .before .before .put2 .ensures)
-    (also (c .before .before .before .before .put-words .ensures) (alone (c .put3 .ensures))))))
+    (also (named c .put .ensures)
+    (also (refused c .put-refused .ensures) (also (parted c .put2 .ensures) (also (worded c .put-words .ensures) (alone (c .put3 .ensures))))))
 
 array-share-prefix-told : tie.Need-array-share-prefix-told
 array-share-prefix-told c = composed (c .before .before) .inside
@@ -24,7 +38,7 @@ slice-aggregate-put-7 : tie.Need-slice-aggregate-put-7
 slice-aggregate-put-7 c = composed (c .before .before .before) .long
 
 returns : tie.Need-returns
-returns c = put-front (composed (c .before .before .before .before .before .before)) (c .before .before .put4 .ensures)
+returns c = let written = c .before .before in put-front (composed (written .before .before .before .before)) (written .put4 .ensures)
 
 pub notice-spec : {M : Type 1} → statement M
 notice-spec =

@@ -33,8 +33,9 @@ slice-write-out c = omega arith
 
 loop-again : tie.Need-loop-again Inv-loop μ-loop
 loop-again c =
-    let start = c .before .before .before .before .before in
-    let here = c .before .before .loop in
+    let inside = c .before .before in
+    let start = inside .before .before .before in
+    let here = inside .loop in
     (search needs, here .inv .1, simp length-set (here .inv .2), copied-more (start .args .out .now) (start .args .at) (start .args .bytes .now) (here .i) (here .inv .3) (omega arith) (omega arith))
 
 same-length : tie.Need-same-length Inv-loop μ-loop

@@ -7,8 +7,10 @@ use Rattle.writing.proofs.put_decimal.Tie as tie
 
 returns : tie.Need-returns
 returns c =
-    let filled = c .before .before .before .before .before .before .before in
-    put-end (filled .fill-digits .last .0) 20 (filled .fill-digits .result) (search needs) (filled .fill-digits .ensures .1) (c .before .before .put .ensures)
+    let written = c .before .before in
+    let taken = written .before .before in
+    let filled = taken .before .before .before in
+    put-end (filled .fill-digits .last .0) 20 (filled .fill-digits .result) (search needs) (filled .fill-digits .ensures .1) (written .put .ensures)
 
 pub put-decimal-spec : {M : Type 1} → statement M
 put-decimal-spec =

@@ -9,8 +9,10 @@ use Rattle.writing.proofs.put_sign.Tie as tie
 
 returns : tie.Need-returns
 returns c =
-    let start = c .before .before .before .before .before .before .before in
-    rw (sign-below (start .args .n) (rw (toZ-ofZ (start .fits .n)) at (c .before .before .before .before .before .if1 .taken))) (c .before .before .put .ensures)
+    let written = c .before .before in
+    let below = written .before .before .before in
+    let start = below .before .before in
+    rw (sign-below (start .args .n) (rw (toZ-ofZ (start .fits .n)) at (below .if1 .taken))) (written .put .ensures)
 
 returns-2 : tie.Need-returns-2
 returns-2 c =

@@ -8,13 +8,23 @@ use Rattle.writing.proofs.Lengths.{signed-front}
 use Rattle.writing.proofs.put_signed.Statement.{statement}
 use Rattle.writing.proofs.put_signed.Tie as tie
 
+-- how the places of the code follow one another
+abbrev sized : tie.After-put-sign → tie.After-magnitude
+sized c = c .before .before
+
+abbrev start-of : tie.After-put-sign → tie.Start
+start-of c = sized c .before .before
+
 -- the sign and the digits stand at the front of `word`
-composed : (c : tie.After-put-decimal) → AtFront (signedOf (c .before .before .before .before .before .before .before .args .n)) (c .put-decimal .last .0) (c .put-decimal .result)
+composed : (c : tie.After-put-decimal) →
+    let start = start-of (c .before .before .before) in
+    AtFront (signedOf (start .args .n)) (c .put-decimal .last .0) (c .put-decimal .result)
 composed c =
-    let start = c .before .before .before .before .before .before .before in
+    let signed = c .before .before .before in
+    let start = start-of signed in
     let back = toZ-ofZ (start .fits .n) in
     signed-front (start .args .n) (start .fits .n) (search needs)
-    (also (rw back at (c .before .before .before .put-sign .ensures)) (alone (rw (c .before .before .before .before .before .magnitude .ensures, back) at (c .put-decimal .ensures))))
+    (also (rw back at (signed .put-sign .ensures)) (alone (rw (sized signed .magnitude .ensures, back) at (c .put-decimal .ensures))))
 
 array-share-prefix-word : tie.Need-array-share-prefix-word
 array-share-prefix-word c = composed (c .before .before) .inside
@@ -23,7 +33,7 @@ slice-aggregate-put : tie.Need-slice-aggregate-put
 slice-aggregate-put c = composed (c .before .before .before) .long
 
 returns : tie.Need-returns
-returns c = put-front (composed (c .before .before .before .before .before .before)) (c .before .before .put .ensures)
+returns c = let written = c .before .before in put-front (composed (written .before .before .before .before)) (written .put .ensures)
 
 pub put-signed-spec : {M : Type 1} → statement M
 put-signed-spec =
