@@ -44,18 +44,19 @@ signed-within l b (negsuc n) e = record { most = omega arith; least = omega (ari
 
 -- ---- the chain of refusals
 
-pub refused-not {ℓ} : {A : Type ℓ} (r : Refusal) → _≡_ {A = Check} (Refused r) Accepted → A
-refused-not r p = let z : _≡_ {A = ℕ} 0 1 = cc in let x : ⊥ = omega arith in absurd x
+-- what is refused is not accepted
+pub refused-not {ℓ} : {A : Type ℓ} {r : Refusal} → Refused r ≡ Accepted → A
+refused-not e = let z : _≡_ {A = ℕ} 0 1 = cc in let x : ⊥ = omega arith in absurd x
 
 pub first-kept : (b : Bool) (r : Refusal) (rest : Check) → unless b r rest ≡ Accepted → b ≡ true
 unfolding unless
 first-kept true r rest e = refl
-first-kept false r rest e = refused-not r e
+first-kept false r rest e = refused-not e
 
 pub rest-kept : (b : Bool) (r : Refusal) (rest : Check) → unless b r rest ≡ Accepted → rest ≡ Accepted
 unfolding unless
 rest-kept true r rest e = e
-rest-kept false r rest e = refused-not r e
+rest-kept false r rest e = refused-not e
 
 -- a chain of lines before further ones is one chain
 first-unless : (b : Bool) (r : Refusal) (x rest : Check) → firstRefused (unless b r x) rest ≡ unless b r (firstRefused x rest)
