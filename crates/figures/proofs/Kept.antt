@@ -1,7 +1,7 @@
 -- What a segment or a train keeps that is not refused, as bounds on naturals.
 -- Assumes nothing.
 use mathlib.Core.Path.{_≡_, refl, sym, subst}
-use mathlib.Core.Bool.{Bool, true, false, _&&_, _||_}
+use mathlib.Core.Bool.{Bool, true, false, _&&_, _||_, false≢true}
 use Prim.Native.Nat.{ℕ, suc, _+_, _≤_}
 use native.Mathlib.Omega.{arith}
 use lib.Dec.{leb}
@@ -22,17 +22,13 @@ use Rattle.figures.specs.Bounds.{From, Signed, Ranged, ReadingsRanged, T
 
 -- ---- tests that hold
 
--- two constructors are never equal: what follows from a test that is both
-pub never {ℓ} : {A : Type ℓ} → false ≡ true → A
-never p = let z : _≡_ {A = ℕ} 0 1 = cc in let x : ⊥ = omega arith in absurd x
-
 and-left : (a b : Bool) → (a && b) ≡ true → a ≡ true
 and-left true b e = refl
 and-left false b e = e
 
 and-right : (a b : Bool) → (a && b) ≡ true → b ≡ true
 and-right true b e = e
-and-right false b e = never e
+and-right false b e = absurd (false≢true e)
 
 or-case : {A : Type 0} (a b : Bool) → (a || b) ≡ true → (a ≡ true → A) → (b ≡ true → A) → A
 or-case true b e f g = f refl
@@ -40,7 +36,7 @@ or-case false b e f g = g e
 
 from-within : (a b : ℕ) (z : ℤ) → within (pos a) (pos b) z ≡ true → From a b z
 from-within a b (pos n) e = record { least = leb-true a n (and-left (leb a n) (leb n b) e); most = leb-true n b (and-right (leb a n) (leb n b) e); sign = refl }
-from-within a b (negsuc n) e = never (and-left false (leZ (negsuc n) (pos b)) e)
+from-within a b (negsuc n) e = absurd (false≢true (and-left false (leZ (negsuc n) (pos b)) e))
 
 signed-within : (l b : ℕ) (z : ℤ) → within (negsuc l) (pos b) z ≡ true → Signed (suc l) b z
 signed-within l b (pos n) e = record { most = leb-true n b e; least = omega arith }
@@ -48,18 +44,19 @@ signed-within l b (negsuc n) e = record { most = omega arith; least = omega (ari
 
 -- ---- the chain of refusals
 
-pub refused-not {ℓ} : {A : Type ℓ} (r : Refusal) → _≡_ {A = Check} (Refused r) Accepted → A
-refused-not r p = let z : _≡_ {A = ℕ} 0 1 = cc in let x : ⊥ = omega arith in absurd x
+-- what is refused is not accepted
+pub refused-not {ℓ} : {A : Type ℓ} {r : Refusal} → Refused r ≡ Accepted → A
+refused-not e = let z : _≡_ {A = ℕ} 0 1 = cc in let x : ⊥ = omega arith in absurd x
 
 pub first-kept : (b : Bool) (r : Refusal) (rest : Check) → unless b r rest ≡ Accepted → b ≡ true
 unfolding unless
 first-kept true r rest e = refl
-first-kept false r rest e = refused-not r e
+first-kept false r rest e = refused-not e
 
 pub rest-kept : (b : Bool) (r : Refusal) (rest : Check) → unless b r rest ≡ Accepted → rest ≡ Accepted
 unfolding unless
 rest-kept true r rest e = e
-rest-kept false r rest e = refused-not r e
+rest-kept false r rest e = refused-not e
 
 -- a chain of lines before further ones is one chain
 first-unless : (b : Bool) (r : Refusal) (x rest : Check) → firstRefused (unless b r x) rest ≡ unless b r (firstRefused x rest)
@@ -94,8 +91,8 @@ without-screen s e =
 
 setback-fits : (r d : ℤ) → leZ (pos leastGap) r ≡ true → leZ (r +ℤ pos leastGap) d ≡ true → (up r ≤ up d) × (dn r ≡ 0)
 setback-fits (pos r) (pos d) e f = (omega (arith, leb-true (r + leastGap) d f), refl)
-setback-fits (pos r) (negsuc d) e f = never f
-setback-fits (negsuc r) d e f = never e
+setback-fits (pos r) (negsuc d) e f = absurd (false≢true f)
+setback-fits (negsuc r) d e f = absurd (false≢true e)
 
 with-screen : (s : Segment) (m : ℕ) → m ≤ mostChart → screenedKept s (pos m) ≡ true → Screened s
 unfolding screenedKept

@@ -1,7 +1,7 @@
 -- The chain of refusals of a segment: what an accepted one keeps, and how the code comes to its end.
 -- Assumes nothing.
-use mathlib.Core.Path.{_≡_, refl, sym, _∙_, ap}
-use mathlib.Core.Bool.{Bool, true, false, not, _||_}
+use mathlib.Core.Path.{_≡_, refl, _∙_, ap}
+use mathlib.Core.Bool.{Bool, true, false, not, _||_, true≢false, false≢true}
 use Prim.Native.Nat.{ℕ, _≤_}
 use lib.Dec.{leb}
 use borrow.Author.Tests.{leb-true}
@@ -13,7 +13,7 @@ use Rattle.figures.specs.declared.Check.the-variants.{Accepted, Refused}
 use Rattle.figures.specs.Geometry.{inShadow}
 use Rattle.figures.specs.Refusal.{unless, firstRefused}
 use Rattle.figures.specs.Rules.{unscreened, rangeCheck, readingsKept}
-use Rattle.figures.proofs.Kept.{never, first-kept, rest-kept, ranges-first, ranged, readings-ranged}
+use Rattle.figures.proofs.Kept.{first-kept, rest-kept, ranges-first, ranged, readings-ranged}
 use Rattle.propagation.specs.Screen.{pathDifference, mostShadow, shadowKept}
 use Rattle.propagation.specs.Check.{segmentCheck}
 use Rattle.propagation.specs.Private.{Ranges, Differs}
@@ -23,9 +23,9 @@ unfolding shadowKept
 in-depth s e f g = go (unscreened s) (inShadow s) e f g
   where
     go : (x y : Bool) → (x || (not y || leb (pathDifference s) mostShadow)) ≡ true → x ≡ false → y ≡ true → pathDifference s ≤ mostShadow
-    go true y e f g = never (sym f)
+    go true y e f g = absurd (true≢false f)
     go false true e f g = leb-true (pathDifference s) mostShadow e
-    go false false e f g = never g
+    go false false e f g = absurd (false≢true g)
 
 -- what an accepted segment keeps
 pub ranges : (s : Segment) → segmentCheck s ≡ Accepted → Ranges s

@@ -1,7 +1,7 @@
 -- The ground step: its own mark is allowed, and its tenths are those of its fence by that mark.
 -- Assumes nothing.
 use mathlib.Core.Path.{_≡_, refl, sym, _∙_, ap}
-use mathlib.Core.Bool.{Bool, true, false, cond}
+use mathlib.Core.Bool.{Bool, true, false, cond, false≢true}
 use mathlib.Core.Logic.{_⊎_, inl, inr}
 use Prim.Native.Nat.{ℕ, _+_, _-_, _*_, _/_, _%_, _≤_, _<_}
 use native.Mathlib.Nat.{lt-of-not-le, mul-le-mul, mul-zero, zero-div}
@@ -23,7 +23,6 @@ use Rattle.decibel.proofs.Attenuation.{scaledLog, negative-low, negative-high, 
 use Rattle.figures.specs.declared.Segment.{Segment}
 use Rattle.figures.specs.Rules.{unscreened}
 use Rattle.figures.specs.Bounds.{Ranged}
-use Rattle.figures.proofs.Kept.{never}
 use Rattle.propagation.specs.Screen.{screenFence}
 use Rattle.propagation.specs.Ground.{groundFactor, grounded, groundFence, pathFence, isClose, GroundMarkBy, GroundMark, GroundSettledBy, GroundSettled, attenuation, groundMark}
 
@@ -93,7 +92,7 @@ grounded-far s e = go (unscreened s) e
   where
     go : (b : Bool) → cond b (ltb 2500 (up (s .distance))) false ≡ true → 2500 < up (s .distance)
     go true e = ltb-true 2500 (up (s .distance)) e
-    go false e = never e
+    go false e = absurd (false≢true e)
 
 pub factor-most : {s : Segment} → Ranged s → groundFactor s ≤ 3000000
 unfolding groundFactor
@@ -152,7 +151,7 @@ ground-path s e = go (unscreened s) e
   where
     go : (b : Bool) → cond b (ltb 2500 (up (s .distance))) false ≡ true → cond b (cond (cond b (ltb 2500 (up (s .distance))) false) (groundFence s) (pos 0)) (screenFence s) ≡ groundFence s
     go true e = rw e refl
-    go false e = never e
+    go false e = absurd (false≢true e)
 
 -- its fence is that of its exact value
 pub ground-fence : (s : Segment) → grounded s ≡ true → IsFence (AtLeast 0 (groundFactor s) 2500 (up (s .distance))) (pathFence s)

@@ -1,7 +1,7 @@
 -- The screen step: the three lengths and the path difference as the code takes them, the formulas, how far they lie from zero.
 -- Assumes nothing.
 use mathlib.Core.Path.{_≡_, refl, sym, _∙_, ap, ap₂, subst}
-use mathlib.Core.Bool.{Bool, true, false, cond}
+use mathlib.Core.Bool.{Bool, true, false, cond, true≢false}
 use Prim.Native.Nat.{ℕ, _+_, _-_, _*_, _≤_, _<_}
 use native.Mathlib.Nat.{le-trans, lt-irrefl, lt-of-lt-of-le, lt-of-not-le, mul-le-mul}
 use native.Mathlib.Omega.{arith}
@@ -25,7 +25,6 @@ use Rattle.figures.proofs.Signs.{read, below-back, from-below, signed-below, na
 use Rattle.figures.proofs.Squares.{slant-most}
 use Rattle.figures.proofs.Tenths.{tenths-of}
 use Rattle.figures.proofs.Lies.{lies-within, lies-fence}
-use Rattle.figures.proofs.Kept.{never}
 use Rattle.propagation.specs.Screen.{lengthOf, pathDifference, mostShadow, screenFormula, screenFence}
 use Rattle.propagation.specs.Private.{Differs, Length}
 use Rattle.propagation.proofs.DistanceStep.{slant-square-most}
@@ -118,7 +117,7 @@ path-is s k l m = omega (arith, k .is, l .is, m .is)
 
 -- taken only where there is a screen
 pub no-screen : (s : Segment) {b : Bool} → b ≡ unscreened s → b ≡ true → Differs s 0
-no-screen s e i = record { is = λ f. never (sym (sym i ∙ e ∙ f)) }
+no-screen s e i = record { is = λ f. absurd (true≢false (sym i ∙ e ∙ f)) }
 
 -- ---- the formulas
 

@@ -3,7 +3,7 @@
 use mathlib.Core.Path.{_≡_, refl}
 use mathlib.Core.Bool.{Bool, true, false, cond, not, _&&_, _||_}
 use mathlib.Core.List.{List, [], _∷_}
-use mathlib.Core.Option.{Option, none, some}
+use mathlib.Core.Option.{Option, none, some, Option·none-ne-some}
 use Prim.Native.Nat.{ℕ, zero, suc, _<_}
 use native.Mathlib.Omega.{arith}
 use native.Mathlib.Decide.{decLt}
@@ -58,12 +58,12 @@ several : (five naught : Bool) (b c : ℕ) (cs : List ℕ) (n : ℕ)
 several true false b c cs n e q =
     let other : b ≡ 48 → ⊥ = eqb-false b 48 e in
     only-form decimal reader b (c ∷ cs) n (omega (arith, not-below decimal reader b (c ∷ cs) n q)) q
-several true true b c cs n e q = let z : _≡_ {A = ℕ} 0 1 = cc in absurd (omega arith)
-several false naught b c cs n e q = let z : _≡_ {A = ℕ} 0 1 = cc in absurd (omega arith)
+several true true b c cs n e q = absurd (Option·none-ne-some n q)
+several false naught b c cs n e q = absurd (Option·none-ne-some n q)
 
 unsigned-form : (w : List ℕ) (n : ℕ) → unsigned w ≡ some n → digitsOf n ≡ w
 unfolding unsigned
-unsigned-form [] n e = let z : _≡_ {A = ℕ} 0 1 = cc in absurd (omega arith)
+unsigned-form [] n e = absurd (Option·none-ne-some n e)
 unsigned-form (b ∷ []) n e = only-digit decimal reader b n e
 unsigned-form (b ∷ c ∷ cs) n e =
     several (leb (length (b ∷ c ∷ cs)) 5) (eqb b 48) b c cs n refl
@@ -71,15 +71,15 @@ unsigned-form (b ∷ c ∷ cs) n e =
 
 below-zero : (read : Option ℕ) (bs : List ℕ) (z : ℤ) → unsigned bs ≡ read → negated read ≡ some z → signedOf z ≡ 45 ∷ bs
 unfolding negated signedOf sign
-below-zero none bs z u e = let k : _≡_ {A = ℕ} 0 1 = cc in absurd (omega arith)
-below-zero (some zero) bs z u e = let k : _≡_ {A = ℕ} 0 1 = cc in absurd (omega arith)
+below-zero none bs z u e = absurd (Option·none-ne-some z e)
+below-zero (some zero) bs z u e = absurd (Option·none-ne-some z e)
 below-zero (some (suc n)) bs z u e =
     let same : negsuc n ≡ z = cc (rw (ne-eqb (suc n) 0 (λ k. omega arith)) at e) in
     rw (← same, unsigned-form bs (suc n) u)
 
 not-below-zero : (read : Option ℕ) (w : List ℕ) (z : ℤ) → unsigned w ≡ read → plain read ≡ some z → signedOf z ≡ w
 unfolding plain signedOf sign
-not-below-zero none w z u e = let k : _≡_ {A = ℕ} 0 1 = cc in absurd (omega arith)
+not-below-zero none w z u e = absurd (Option·none-ne-some z e)
 not-below-zero (some n) w z u e =
     let same : pos n ≡ z = cc in
     rw (← same) (unsigned-form w n u)
@@ -93,5 +93,5 @@ by-sign false b bs z e q = not-below-zero (unsigned (b ∷ bs)) (b ∷ bs) z ref
 
 pub read-is-written : (w : List ℕ) (z : ℤ) → valueOf w ≡ some z → signedOf z ≡ w
 unfolding valueOf
-read-is-written [] z e = let k : _≡_ {A = ℕ} 0 1 = cc in absurd (omega arith)
+read-is-written [] z e = absurd (Option·none-ne-some z e)
 read-is-written (b ∷ bs) z e = by-sign (eqb b 45) b bs z refl e

@@ -1,11 +1,10 @@
 -- Demand 3: how far rounding carries a total, for every list of additions.
 -- Assumes nothing.
 use mathlib.Core.Path.{_≡_, refl, ap}
-use mathlib.Core.Bool.{true}
+use mathlib.Core.Bool.{true, false≢true}
 use mathlib.Core.List.{List, [], _∷_}
 use Prim.Native.Nat.{ℕ, _≤_, _<_}
 use native.Mathlib.Nat.{le-refl, le-trans, zero-lt-suc}
-use native.Mathlib.Omega.{arith}
 use lib.IntN.{ℤ}
 use lib.ListN.{length}
 use borrow.Author.Tests.{lt-ltb, le-leb}
@@ -28,7 +27,7 @@ use Rattle.study.proofs.Entries.{TotalsKeep, result-accurate}
 
 some-entry : (p : Period) (es : List Entry) → hasTrains p es ≡ true → 0 < length es
 unfolding hasTrains
-some-entry p [] h = absurd (let z : _≡_ {A = ℕ} 0 1 = cc in omega arith)
+some-entry p [] h = absurd (false≢true h)
 some-entry p (e ∷ es) h = zero-lt-suc (length es)
 
 -- a request with an entry and enough cells is answered

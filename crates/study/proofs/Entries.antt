@@ -1,11 +1,10 @@
 -- The entries of a sound plan: each level near its fence, in the order of the entries, and so the total near the bare level.
 -- Assumes nothing.
 use mathlib.Core.Path.{_≡_, refl}
-use mathlib.Core.Bool.{Bool, true, false, cond, _||_}
+use mathlib.Core.Bool.{Bool, true, false, cond, _||_, false≢true}
 use mathlib.Core.List.{List, [], _∷_, map}
 use Prim.Native.Nat.{ℕ, zero, suc, _-_, _≤_, _<_, zero-le, suc-le-suc}
 use native.Mathlib.Nat.{le-trans, le-suc, lt-irrefl, zero-lt-suc}
-use native.Mathlib.Omega.{arith}
 use lib.IntN.{ℤ}
 use lib.ListN.{length}
 use lib.Dec.{lit≤}
@@ -64,7 +63,7 @@ fences-few p plan (e ∷ es) = go (sounds p (e .train)) (fences-few p plan es)
 
 fences-some : (p : Period) (plan : Plan) (es : List Entry) → hasTrains p es ≡ true → 0 < length (fencesOf p plan es)
 unfolding fencesOf hasTrains
-fences-some p plan [] h = absurd (let z : _≡_ {A = ℕ} 0 1 = cc in omega arith)
+fences-some p plan [] h = absurd (false≢true h)
 fences-some p plan (e ∷ es) h = go (sounds p (e .train)) h (fences-some p plan es)
   where
     go : (b : Bool) → (b || hasTrains p es) ≡ true → (hasTrains p es ≡ true → 0 < length (fencesOf p plan es)) → 0 < length (cond b (entryFence p (segmentAt plan (e .segment)) (e .train) ∷ fencesOf p plan es) (fencesOf p plan es))

@@ -13,6 +13,7 @@ use borrow.Author.Tests.{leb-true}
 use Rattle.figures.specs.declared.Refusal.the-variants as R
 use Rattle.figures.specs.declared.Check.{Check}
 use Rattle.figures.specs.declared.Check.the-variants.{Accepted, Refused}
+use Rattle.figures.proofs.Kept.{refused-not}
 use Rattle.study.specs.declared.Study.{Study}
 use Rattle.study.specs.Plan.{Plan, planOf, emptyStudy}
 use Rattle.study.specs.Add.{Limits, segmentAnswer, trainAnswer, withSegment, withTrain, answer, addSegment, addTrain}
@@ -29,7 +30,6 @@ use Rattle.text.specs.declared.lines.SegmentLine.{SegmentLine}
 use Rattle.text.specs.declared.lines.SegmentLine.the-variants as S
 use Rattle.text.specs.declared.lines.TrainLine.{TrainLine}
 use Rattle.text.specs.declared.lines.TrainLine.the-variants as T
-use Rattle.text.proofs.Rest.{never}
 use Rattle.text.proofs.Runs.{after-accepted, accepted-text-is-run}
 use Rattle.text.proofs.Refusals.{trainsIn, kinds-trains}
 
@@ -38,27 +38,27 @@ use Rattle.text.proofs.Refusals.{trainsIn, kinds-trains}
 accepted-new : (c : Check) (old new : Study) → answer c old new .check ≡ Accepted → answer c old new .study ≡ new
 unfolding answer
 accepted-new Accepted old new e = refl
-accepted-new (Refused r) old new e = never e
+accepted-new (Refused r) old new e = refused-not e
 
 line-total : (l : Limits) (p : Kind) (st : Study) (x : Line) (ps : List Kind) → addLine l p st x .check ≡ Accepted → addLine l p st x .study .total + trainsIn ps ≡ st .total + trainsIn (p ∷ ps)
 unfolding addLine addSegment addTrain withSegment withTrain
-line-total l p st unended ps e = never e
+line-total l p st unended ps e = refused-not e
 line-total l K.Segment st (ended line) ps e = go (segmentOf line) e
   where
     go : (r : SegmentLine) → segmentAdds l st r .check ≡ Accepted → segmentAdds l st r .study .total + trainsIn ps ≡ st .total + trainsIn ps
-    go S.Malformed f = never f
+    go S.Malformed f = refused-not f
     go (S.Fields s) f = ap (λ (new : Study). new .total + trainsIn ps) (accepted-new (segmentAnswer l (st .count) s) st (withSegment st s) f)
 line-total l K.Train st (ended line) ps e = go (trainOf line) e
   where
     go : (r : TrainLine) → trainAdds l st r .check ≡ Accepted → trainAdds l st r .study .total + trainsIn ps ≡ st .total + trainsIn (K.Train ∷ ps)
-    go T.Malformed f = never f
+    go T.Malformed f = refused-not f
     go (T.Fields t) f = ap (λ (new : Study). new .total + trainsIn ps) (accepted-new (trainAnswer l (st .count) (st .total) t) st (withTrain st t) f) ∙ omega arith
 
 lines-total : (l : Limits) (st : Study) (k : ℕ) (ps : List Kind) (xs : List Line) → readLines l st k ps xs .check ≡ Accepted → readLines l st k ps xs .study .total ≡ st .total + trainsIn ps
 unfolding readLines
 lines-total l st k [] [] e = omega arith
-lines-total l st k [] (x ∷ xs) e = never e
-lines-total l st k (p ∷ ps) [] e = never e
+lines-total l st k [] (x ∷ xs) e = refused-not e
+lines-total l st k (p ∷ ps) [] e = refused-not e
 lines-total l st k (p ∷ ps) (x ∷ xs) e =
     let a = addLine l p st x in
     let w = after-accepted (a .check) k (readLines l (a .study) (k + 1) ps xs) e in
@@ -96,13 +96,13 @@ module _ (l : Limits) where
 
   body-total : (r : Read) (xs : List Line) → Some r → readBody l r xs .check ≡ Accepted → 0 < readBody l r xs .study .total
   unfolding emptyStudy
-  body-total (refused r) xs h e = never e
+  body-total (refused r) xs h e = refused-not e
   body-total (counts cs) xs h e = omega (arith, lines-total l emptyStudy 2 (kindsOf cs) xs e, kinds-trains cs)
 
   from-total : (xs : List Line) → readFrom l xs .check ≡ Accepted → 0 < readFrom l xs .study .total
   unfolding contentsOf
-  from-total [] e = never e
-  from-total (unended ∷ xs) e = never e
+  from-total [] e = refused-not e
+  from-total (unended ∷ xs) e = refused-not e
   from-total (ended line ∷ xs) e = body-total (contentsOf l line) xs (contents-some (numbersOf line)) e
 
   pub accepted-total : (text : List ℕ) → readText l text .check ≡ Accepted → 0 < readText l text .study .total
@@ -111,7 +111,7 @@ module _ (l : Limits) where
     where
       go : (t : Bool) → cond t (readFrom l (linesOf text)) (refusedAt R.Form 0) .check ≡ Accepted → 0 < cond t (readFrom l (linesOf text)) (refusedAt R.Form 0) .study .total
       go true f = from-total (linesOf text) f
-      go false f = never f
+      go false f = refused-not f
 
 -- so the request for levels over an accepted text's study is never turned back by 23
 pub accepted-text-has-entry : (l : Limits) → LimitsFit l → (text : List ℕ) → readText l text .check ≡ Accepted → 0 < length (accepted l (additionsOf l text) .entries)

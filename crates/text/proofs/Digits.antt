@@ -5,7 +5,7 @@ use mathlib.Core.Logic.{⊎-elim, _⊎_, inl, inr}
 use Prim.Native.Nat.{ℕ, suc, _+_, _-_, _*_, _%_, _^_, _≤_, _<_}
 use mathlib.Core.List.{List, [], _∷_}
 use mathlib.Core.Bool.{Bool, true, false, not, cond, _&&_, _||_, and-false, or-true}
-use mathlib.Core.Option.{none, some}
+use mathlib.Core.Option.{none, some, Option·none-ne-some}
 use native.Mathlib.Numerals.{add-one}
 use native.Mathlib.Omega.{arith}
 use native.Mathlib.Nat.{pow-suc, pow-le-pow-right, lt-of-lt-of-le, sub-self}
@@ -19,7 +19,7 @@ use mir.Facts.{toZ-pos}
 use borrow.Author.Tests.{ne-eqb, eqb-true, eqb-false, le-leb, lt-leb}
 use Rattle.text.specs.Bytes.{until}
 use Rattle.text.specs.Numbers.{decimal, unsigned, negated}
-use Rattle.text.proofs.Cases.{lt-or-ge, apart}
+use Rattle.text.proofs.Cases.{lt-or-ge}
 use Rattle.text.proofs.Bytes.{until-skip}
 
 -- the word at a position: up to the next space or the line's end
@@ -63,7 +63,7 @@ decimal-grows acc (b ∷ bs) {n} e = go (λ q. decimal-grows (acc * 10 + (b - 48
     go : (decimal (acc * 10 + (b - 48)) bs ≡ some n → acc * 10 + (b - 48) ≤ n) → (t : Bool)
         → cond t (decimal (acc * 10 + (b - 48)) bs) none ≡ some n → acc ≤ n
     go f true q = omega (arith, f q)
-    go f false q = apart (cc)
+    go f false q = absurd (Option·none-ne-some n q)
 
 -- the digits of a word from `at` up to `i`: at most five, of the value v
 pub record Passed (line : List ℕ) (at v i : ℕ) : Type 0 where
@@ -136,8 +136,8 @@ above-some b bs {n} p e = go (rightForm (b ∷ bs)) (leb 48 b && leb b 57) e
   where
     go : (t u : Bool) → cond t (cond u (decimal (0 * 10 + (b - 48)) bs) none) none ≡ some n → 0 < n
     go true true q = omega (arith, decimal-grows (0 * 10 + (b - 48)) bs q)
-    go true false q = apart (cc)
-    go false u q = apart (cc)
+    go true false q = absurd (Option·none-ne-some n q)
+    go false u q = absurd (Option·none-ne-some n q)
 
 -- a zero in front of more
 pub unsigned-zero : (b : ℕ) (bs : List ℕ) → unsigned (48 ∷ b ∷ bs) ≡ none

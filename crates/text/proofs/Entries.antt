@@ -4,7 +4,7 @@ use mathlib.Core.Path.{_≡_, refl, sym, ap, _∙_}
 use Prim.Native.Nat.{ℕ, zero, suc, _+_, _^_, _≤_, _<_}
 use mathlib.Core.List.{List, [], _∷_, _++_, append-assoc, append-nil}
 use mathlib.Core.Bool.{Bool, true, false, cond, true≢false}
-use mathlib.Core.Option.{Option, none, some}
+use mathlib.Core.Option.{Option, none, some, Option·none-ne-some}
 use native.Mathlib.Omega.{arith}
 use lib.ListN.{length, take, set, length-append, length-set}
 use lib.Seq.{take-suc-set}
@@ -24,7 +24,6 @@ use Rattle.text.specs.declared.numbers.Number.the-variants as N
 use Rattle.text.specs.declared.contents.Sum.{Sum}
 use Rattle.text.specs.declared.contents.Sum.the-variants as U
 use Rattle.text.specs.declared.contents.Contents.the-variants as C
-use Rattle.text.proofs.Cases.{apart}
 use Rattle.text.proofs.Positions.{next-number, wrong-number, past-end, whole-line, back, through}
 use Rattle.text.proofs.Fields.{onward, onward-front, onward-nil}
 
@@ -62,13 +61,13 @@ front-onward a bs (some ds) = refl
 counts-onward : (most : ℕ) (vs us : List ℤ) (cs : List ℕ) → countsIn most vs ≡ some cs → countsIn most (vs ++ us) ≡ onward cs (countsIn most us)
 unfolding countsIn front
 counts-onward most [] us cs e = let z : [] ≡ cs = cc in rw (← z) (onward-nil (countsIn most us))
-counts-onward most (negsuc m ∷ vs) us cs e = apart (cc)
+counts-onward most (negsuc m ∷ vs) us cs e = absurd (Option·none-ne-some cs e)
 counts-onward most (pos m ∷ vs) us cs e = go (leb m most) (countsIn most vs) (counts-onward most vs us) e
   where
     go : (t : Bool) (o : Option (List ℕ)) → ((ds : List ℕ) → o ≡ some ds → countsIn most (vs ++ us) ≡ onward ds (countsIn most us))
         → cond t (front m o) none ≡ some cs → cond t (front m (countsIn most (vs ++ us))) none ≡ onward cs (countsIn most us)
-    go false o f q = apart (cc)
-    go true none f q = apart (cc)
+    go false o f q = absurd (Option·none-ne-some cs q)
+    go true none f q = absurd (Option·none-ne-some cs q)
     go true (some ds) f q = let z : m ∷ ds ≡ cs = cc in rw (f ds refl, ← z) (front-onward m ds (countsIn most us))
 
 -- out of range as counts, whatever their number

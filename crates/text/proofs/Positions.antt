@@ -1,6 +1,6 @@
 -- The next number of a line, by position: what stands there, and what it says of all the line's numbers.
 -- Assumes nothing.
-use mathlib.Core.Path.{_≡_, refl, sym, ap}
+use mathlib.Core.Path.{_≡_, refl, sym, ap, _∙_}
 use mathlib.Core.Logic.{⊎-elim}
 use Prim.Native.Nat.{ℕ, suc, _+_, _^_, _≤_, _<_}
 use mathlib.Core.List.{List, [], _∷_, map}
@@ -20,7 +20,7 @@ use Rattle.text.specs.Bytes.{until, split}
 use Rattle.text.specs.Numbers.{valueOf, front, allOf, numbersOf, numberAs, numberAt}
 use Rattle.text.specs.Private.{numbersFrom}
 use Rattle.text.specs.declared.numbers.Number.the-variants as N
-use Rattle.text.proofs.Cases.{lt-or-ge, apart}
+use Rattle.text.proofs.Cases.{lt-or-ge, no-value}
 use Rattle.text.proofs.Bytes.{split-first}
 use Rattle.text.proofs.Values.{number-past}
 
@@ -95,8 +95,8 @@ module _ (line : List ℕ) (at : ℕ) where
   next-number {v} {n} e = go (stands line at)
     where
       go : Stands line at → (at < n) × (numbersFrom line at ≡ front v (numbersFrom line n))
-      go (nothing h q f) = apart (cc)
-      go (wrong h q f) = apart (cc)
+      go (nothing h q f) = no-value (sym q ∙ e)
+      go (wrong h q f) = no-value (sym q ∙ e)
       go (number u m h q f) = let z : m ≡ n = cc in (omega arith, cc)
 
   pub wrong-number : at ≤ length line → numberAt line at ≡ N.Malformed → numbersFrom line at ≡ none

@@ -18,6 +18,7 @@ use Rattle.figures.specs.declared.Check.{Check}
 use Rattle.figures.specs.declared.Check.the-variants.{Accepted, Refused}
 use Rattle.figures.specs.Refusal.{numberOf, checkNumber, unless, firstRefused}
 use Rattle.figures.specs.Rules.{trainCheck, distanceKept, heightsKept, softKept, anglesKept, screenKept, rangesThen, readingsKept, rowKept, speedKept, vehiclesKept, trainsKept}
+use Rattle.figures.proofs.Kept.{refused-not}
 use Rattle.propagation.specs.Check.{segmentCheck}
 use Rattle.propagation.specs.Screen.{shadowKept}
 use Rattle.study.specs.declared.Study.{Study}
@@ -34,7 +35,6 @@ use Rattle.text.specs.declared.lines.SegmentLine.{SegmentLine}
 use Rattle.text.specs.declared.lines.SegmentLine.the-variants as S
 use Rattle.text.specs.declared.lines.TrainLine.{TrainLine}
 use Rattle.text.specs.declared.lines.TrainLine.the-variants as T
-use Rattle.text.proofs.Rest.{never}
 
 -- accepted, or refused by a number up to 13
 abbrev Own : Check → Type 0
@@ -93,11 +93,11 @@ module _ (l : Limits) (st : Study) (ps : List Kind) where
   answer-fine : (c : Check) (new : Study) → Own c → Room l new ps → Fine l ps (answer c st new)
   unfolding answer
   answer-fine Accepted new o room = (o, λ e. room)
-  answer-fine (Refused r) new o room = (o, λ e. never e)
+  answer-fine (Refused r) new o room = (o, λ e. refused-not e)
 
   malformed-fine : Fine l ps (refusedAddition st R.Form)
   unfolding checkNumber numberOf
-  malformed-fine = (omega arith, λ e. never e)
+  malformed-fine = (omega arith, λ e. refused-not e)
 
   segment-fine : Room l st (K.Segment ∷ ps) → (s : Segment) → Fine l ps (addSegment l st s)
   unfolding addSegment segmentAnswer segmentLimit withSegment unless firstRefused

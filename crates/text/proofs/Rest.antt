@@ -12,7 +12,7 @@ use borrow.Author.Tests.{le-leb, lt-leb}
 use Rattle.figures.specs.declared.Refusal.{Refusal}
 use Rattle.figures.specs.declared.Refusal.the-variants as R
 use Rattle.figures.specs.declared.Check.{Check}
-use Rattle.figures.specs.declared.Check.the-variants.{Accepted, Refused}
+use Rattle.figures.specs.declared.Check.the-variants.{Refused}
 use Rattle.study.specs.declared.Study.{Study}
 use Rattle.study.specs.Plan.{emptyStudy}
 use Rattle.study.specs.Add.{Limits, answer, withSegment, withTrain, addSegment, addTrain}
@@ -29,12 +29,8 @@ use Rattle.text.specs.declared.lines.SegmentLine.{SegmentLine}
 use Rattle.text.specs.declared.lines.SegmentLine.the-variants as S
 use Rattle.text.specs.declared.lines.TrainLine.{TrainLine}
 use Rattle.text.specs.declared.lines.TrainLine.the-variants as T
-use Rattle.text.proofs.Cases.{apart}
 use Rattle.text.proofs.Bytes.{until-within}
 use Rattle.text.proofs.Places.{View, at-end, at-torn, at-line, view}
-
-pub never : {A : Type 0} {r : Refusal} → Refused r ≡ Accepted → A
-never e = apart (cc)
 
 -- ---- a kind of line: what is read of it, what that answers, and the study that it makes where it is accepted
 

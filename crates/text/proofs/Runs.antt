@@ -10,6 +10,7 @@ use Rattle.figures.specs.declared.Refusal.{Refusal}
 use Rattle.figures.specs.declared.Refusal.the-variants as R
 use Rattle.figures.specs.declared.Check.{Check}
 use Rattle.figures.specs.declared.Check.the-variants.{Accepted, Refused}
+use Rattle.figures.proofs.Kept.{refused-not}
 use Rattle.study.specs.declared.Study.{Study}
 use Rattle.study.specs.Plan.{planOf, emptyStudy}
 use Rattle.study.specs.Add.{Limits}
@@ -25,35 +26,34 @@ use Rattle.text.specs.declared.lines.SegmentLine.{SegmentLine}
 use Rattle.text.specs.declared.lines.SegmentLine.the-variants as S
 use Rattle.text.specs.declared.lines.TrainLine.{TrainLine}
 use Rattle.text.specs.declared.lines.TrainLine.the-variants as T
-use Rattle.text.proofs.Rest.{never}
 
 -- an accepted line is its addition
 line-runs : (l : Limits) (p : Kind) (st : Study) (x : Line) (rest : List Addition) → addLine l p st x .check ≡ Accepted
     → runFrom l (addLine l p st x .study) rest ≡ runFrom l st (lineAdditions p x ++ rest)
 unfolding addLine lineAdditions runFrom step
-line-runs l p st unended rest e = never e
+line-runs l p st unended rest e = refused-not e
 line-runs l K.Segment st (ended line) rest e = go (segmentOf line) e
   where
     go : (r : SegmentLine) → segmentAdds l st r .check ≡ Accepted → runFrom l (segmentAdds l st r .study) rest ≡ runFrom l st (segmentAddition r ++ rest)
-    go S.Malformed f = never f
+    go S.Malformed f = refused-not f
     go (S.Fields s) f = refl
 line-runs l K.Train st (ended line) rest e = go (trainOf line) e
   where
     go : (r : TrainLine) → trainAdds l st r .check ≡ Accepted → runFrom l (trainAdds l st r .study) rest ≡ runFrom l st (trainAddition r ++ rest)
-    go T.Malformed f = never f
+    go T.Malformed f = refused-not f
     go (T.Fields t) f = refl
 
 -- what comes after an accepted line
 pub after-accepted : (c : Check) (k : ℕ) (rest : Reading) → after c k rest .check ≡ Accepted → (c ≡ Accepted) × (after c k rest ≡ rest)
 after-accepted Accepted k rest e = (refl, refl)
-after-accepted (Refused r) k rest e = never e
+after-accepted (Refused r) k rest e = refused-not e
 
 lines-run : (l : Limits) (st : Study) (k : ℕ) (ps : List Kind) (xs : List Line) → readLines l st k ps xs .check ≡ Accepted
     → readLines l st k ps xs .study ≡ runFrom l st (linesAdditions ps xs)
 unfolding readLines linesAdditions runFrom
 lines-run l st k [] [] e = refl
-lines-run l st k [] (x ∷ xs) e = never e
-lines-run l st k (p ∷ ps) [] e = never e
+lines-run l st k [] (x ∷ xs) e = refused-not e
+lines-run l st k (p ∷ ps) [] e = refused-not e
 lines-run l st k (p ∷ ps) (x ∷ xs) e =
     let a = addLine l p st x in
     let w = after-accepted (a .check) k (readLines l (a .study) (k + 1) ps xs) e in
@@ -63,12 +63,12 @@ lines-run l st k (p ∷ ps) (x ∷ xs) e =
 
 body-runs : (l : Limits) (r : Read) (xs : List Line) → readBody l r xs .check ≡ Accepted → readBody l r xs .study ≡ run l (bodyAdditions r xs)
 unfolding run
-body-runs l (refused r) xs e = never e
+body-runs l (refused r) xs e = refused-not e
 body-runs l (counts cs) xs e = lines-run l emptyStudy 2 (kindsOf cs) xs e
 
 from-runs : (l : Limits) (xs : List Line) → readFrom l xs .check ≡ Accepted → readFrom l xs .study ≡ run l (additionsIn l xs)
-from-runs l [] e = never e
-from-runs l (unended ∷ xs) e = never e
+from-runs l [] e = refused-not e
+from-runs l (unended ∷ xs) e = refused-not e
 from-runs l (ended line ∷ xs) e = body-runs l (contentsOf l line) xs e
 
 -- an accepted text's study is that of its lines' additions, in order
@@ -79,26 +79,26 @@ accepted-text-is-run l text e = go (leb (length text) 16384) e
     go : (t : Bool) → cond t (readFrom l (linesOf text)) (refusedAt R.Form 0) .check ≡ Accepted
         → cond t (readFrom l (linesOf text)) (refusedAt R.Form 0) .study ≡ run l (additionsIn l (linesOf text))
     go true f = from-runs l (linesOf text) f
-    go false f = never f
+    go false f = refused-not f
 
 -- an accepted text's line is 0
 lines-line : (l : Limits) (st : Study) (k : ℕ) (ps : List Kind) (xs : List Line) → readLines l st k ps xs .check ≡ Accepted → readLines l st k ps xs .line ≡ 0
 unfolding readLines
 lines-line l st k [] [] e = refl
-lines-line l st k [] (x ∷ xs) e = never e
-lines-line l st k (p ∷ ps) [] e = never e
+lines-line l st k [] (x ∷ xs) e = refused-not e
+lines-line l st k (p ∷ ps) [] e = refused-not e
 lines-line l st k (p ∷ ps) (x ∷ xs) e =
     let a = addLine l p st x in
     let w = after-accepted (a .check) k (readLines l (a .study) (k + 1) ps xs) e in
     ap (λ (r : Reading). r .line) (w .1) ∙ lines-line l (a .study) (k + 1) ps xs (sym (ap (λ (r : Reading). r .check) (w .1)) ∙ e)
 
 body-line : (l : Limits) (r : Read) (xs : List Line) → readBody l r xs .check ≡ Accepted → readBody l r xs .line ≡ 0
-body-line l (refused r) xs e = never e
+body-line l (refused r) xs e = refused-not e
 body-line l (counts cs) xs e = lines-line l emptyStudy 2 (kindsOf cs) xs e
 
 from-line : (l : Limits) (xs : List Line) → readFrom l xs .check ≡ Accepted → readFrom l xs .line ≡ 0
-from-line l [] e = never e
-from-line l (unended ∷ xs) e = never e
+from-line l [] e = refused-not e
+from-line l (unended ∷ xs) e = refused-not e
 from-line l (ended line ∷ xs) e = body-line l (contentsOf l line) xs e
 
 pub accepted-line : (l : Limits) (text : List ℕ) → readText l text .check ≡ Accepted → readText l text .line ≡ 0
@@ -107,7 +107,7 @@ accepted-line l text e = go (leb (length text) 16384) e
   where
     go : (t : Bool) → cond t (readFrom l (linesOf text)) (refusedAt R.Form 0) .check ≡ Accepted → cond t (readFrom l (linesOf text)) (refusedAt R.Form 0) .line ≡ 0
     go true f = from-line l (linesOf text) f
-    go false f = never f
+    go false f = refused-not f
 
 -- a refused text gives the empty study
 after-refused : (c : Check) (k : ℕ) (rest : Reading) (f : Refusal) → (rest .check ≡ Refused f → rest .study ≡ emptyStudy)
@@ -118,7 +118,7 @@ after-refused (Refused r) k rest f h e = refl
 lines-refused : (l : Limits) (st : Study) (k : ℕ) (ps : List Kind) (xs : List Line) (f : Refusal) → readLines l st k ps xs .check ≡ Refused f
     → readLines l st k ps xs .study ≡ emptyStudy
 unfolding readLines
-lines-refused l st k [] [] f e = never (sym e)
+lines-refused l st k [] [] f e = refused-not (sym e)
 lines-refused l st k [] (x ∷ xs) f e = refl
 lines-refused l st k (p ∷ ps) [] f e = refl
 lines-refused l st k (p ∷ ps) (x ∷ xs) f e =

@@ -17,7 +17,7 @@ use borrow.Author.Tests.{eq-eqb, ne-eqb, eqb-true, eqb-false, le-leb}
 use Rattle.text.specs.Numbers.{decimal, unsigned, negated, plain, valueOf, numberAs, numberAt}
 use Rattle.text.specs.declared.numbers.Number.{Number}
 use Rattle.text.specs.declared.numbers.Number.the-variants as N
-use Rattle.text.proofs.Cases.{apart}
+use Rattle.text.proofs.Cases.{no-value}
 use Rattle.text.proofs.Bytes.{until-stop, until-end, until-skip}
 use Rattle.text.proofs.Digits.{word, word-more, word-low, word-high, Passed, unsigned-wrong, unsigned-long, unsigned-above, above-some, unsigned-zero, negated-low, signed}
 
@@ -118,7 +118,7 @@ module _ (k : ℕ) {n : ℕ} {v : ℤ} where
   -- an i32 that is not below zero has its negative
   sign-fits : (o : Option ℕ) → numberAs (plain o) k ≡ N.Value v n → SFits w32 v → SFits w32 (negℤ v)
   unfolding numberAs plain
-  sign-fits none e f = apart (cc)
+  sign-fits none e f = no-value e
   sign-fits (some zero) e f = let q : v ≡ pos zero = cc in rw q (record { sfits = omega arith })
   sign-fits (some (suc m)) e f = let q : v ≡ pos (suc m) = cc in rw q (record { sfits = omega (arith, rw q at (f .sfits)) })
 

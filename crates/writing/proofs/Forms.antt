@@ -4,7 +4,7 @@
 use mathlib.Core.Path.{_≡_, refl, sym, _∙_}
 use mathlib.Core.Bool.{Bool, true, false, cond, _&&_}
 use mathlib.Core.List.{List, [], _∷_, _++_, append-assoc, append-nil}
-use mathlib.Core.Option.{Option, none, some}
+use mathlib.Core.Option.{Option, none, some, Option·none-ne-some}
 use Prim.Native.Nat.{ℕ, zero, suc, _+_, _-_, _*_, _/_, _%_, _<_, _≤_}
 use native.Mathlib.Omega.{arith}
 use native.Mathlib.Decide.{decLt}
@@ -61,8 +61,8 @@ module _ (read : ℕ → List ℕ → Option ℕ) (reader : DigitReader read) wh
       → cond (low && high) (read (acc * 10 + (b - 48)) bs) none ≡ some n
       → Digit acc b bs n
   digit-by true true acc b bs n x y q = record { low = leb-true 48 b x; high = leb-true b 57 y; rest = q }
-  digit-by true false acc b bs n x y q = let z : _≡_ {A = ℕ} 0 1 = cc in absurd (omega arith)
-  digit-by false high acc b bs n x y q = let z : _≡_ {A = ℕ} 0 1 = cc in absurd (omega arith)
+  digit-by true false acc b bs n x y q = absurd (Option·none-ne-some n q)
+  digit-by false high acc b bs n x y q = absurd (Option·none-ne-some n q)
 
   digit : (acc b : ℕ) (bs : List ℕ) (n : ℕ) → read acc (b ∷ bs) ≡ some n → Digit acc b bs n
   digit acc b bs n e = digit-by (leb 48 b) (leb b 57) acc b bs n refl refl (rw (reader .goes acc b bs) at e)
