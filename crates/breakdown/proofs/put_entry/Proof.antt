@@ -7,13 +7,17 @@ use Rattle.breakdown.specs.Lines.{entryParts}
 use Rattle.breakdown.proofs.put_entry.Statement.{statement}
 use Rattle.breakdown.proofs.put_entry.Tie as tie
 
+-- how the places of the code follow one another
+abbrev before-place : tie.After-put-number2 → tie.After-slice-known2
+before-place c = c .before .before .before
+
 returns : tie.Need-returns
 unfolding entryParts
 returns c =
     let levels = c .before .before in
     let steps = levels .before .before .before .before in
     let place = steps .before .before .before .before in
-    let number = place .before .before .before .before .before in
+    let number = before-place place .before .before in
     let parts = number .before .before .before in
     let start = parts .before .before in
     let is = parts .train-breakdown-of .ensures .is in

@@ -11,7 +11,8 @@ returns : tie.Need-returns
 unfolding levelParts
 returns c =
     let end = c .before .before in
-    let night = end .before .before .before .before .before in
+    let before-end = end .before .before .before in
+    let night = before-end .before .before in
     let night-cell = night .before .before .before in
     let day = night-cell .before .before .before in
     let day-cell = day .before .before .before in

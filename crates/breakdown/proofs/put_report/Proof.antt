@@ -16,10 +16,14 @@ slice-aggregate-put c =
     let told = c .before .before .before .before in
     whole-at-front (told .report .ensures .output) (told .report .ensures .outputRoom) (search needs) .long
 
+-- how the places of the code follow one another
+abbrev before-put : tie.After-put → tie.After-lines2
+before-put c = c .before .before .before .before
+
 returns : tie.Need-returns
 returns c =
     let put = c .before .before in
-    let told = put .before .before .before .before .before in
+    let told = before-put put .before in
     (put-front (whole-at-front (told .report .ensures .output) (told .report .ensures .outputRoom) (search needs)) (put .put .ensures), told .report .ensures .allowed)
 
 pub put-report-spec : {M : Type 1} → statement M

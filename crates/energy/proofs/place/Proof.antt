@@ -23,8 +23,9 @@ left guess w r₀ r = length markBeginList - r
 
 further : tie.Need-loop2-again down below over left
 further c =
-    let stands = c .before .before .before .before .before .before .pre .stands in
-    (omega (arith, not-last (c .before .before .loop2 .r) stands (c .before .before .loop2 .inv .0) (omega arith)), omega arith)
+    let turn = c .before .before in
+    let stands = turn .before .before .before .before .pre .stands in
+    (omega (arith, not-last (turn .loop2 .r) stands (turn .loop2 .inv .0) (omega arith)), omega arith)
 
 pub place-spec : {M : Type 1} → statement M
 place-spec =

@@ -9,12 +9,16 @@ use Rattle.report.proofs.put_level.Statement.{statement}
 use Rattle.report.proofs.put_level.Tie as tie
 
 returns : tie.Need-returns
-returns c = silent-put (c .before .before .before .before .before .enum-told .given .1) (c .before .before .put .ensures)
+returns c =
+    let put = c .before .before in
+    silent-put (put .before .before .before .enum-told .given .1) (put .put .ensures)
 
 returns-2 : tie.Need-returns-2
 returns-2 c =
-    let f : SFits w32 (c .before .before .before .before .before .level .given .0 .0) = search needs in
-    figure-put (c .before .before .before .before .before .level .given .1) f (rw (toZ-ofZ f) at (c .before .before .put-figure .ensures))
+    let put = c .before .before in
+    let told = put .before .before .before in
+    let f : SFits w32 (told .level .given .0 .0) = search needs in
+    figure-put (told .level .given .1) f (rw (toZ-ofZ f) at (put .put-figure .ensures))
 
 pub put-level-spec : {M : Type 1} → statement M
 put-level-spec =

@@ -7,11 +7,18 @@ use Rattle.report.proofs.Lines.{refusal-front}
 use Rattle.report.proofs.put_refusal.Statement.{statement}
 use Rattle.report.proofs.put_refusal.Tie as tie
 
+-- how the places of the code follow one another
+abbrev at-reason : tie.After-put → tie.After-put-refused
+at-reason c = c .before .before .before .before
+
+abbrev start-of : tie.After-put → tie.Start
+start-of c = at-reason c .before .before .before
+
 -- the line stands at the front of `told`
-composed : (c : tie.After-put) → AtFront (refusalLine (c .before .before .before .before .before .before .before .args .refusal) (c .before .before .before .before .before .before .before .args .line)) (c .put .last .0) (c .put .result)
+composed : (c : tie.After-put) → AtFront (refusalLine (start-of c .args .refusal) (start-of c .args .line)) (c .put .last .0) (c .put .result)
 composed c =
-    let start = c .before .before .before .before .before .before .before in
-    refusal-front (start .args .refusal) (start .args .line) (start .fits .line .fits) (search needs) (c .before .before .before .before .put-refused .ensures) (c .put .ensures)
+    let start = start-of c in
+    refusal-front (start .args .refusal) (start .args .line) (start .fits .line .fits) (search needs) (at-reason c .put-refused .ensures) (c .put .ensures)
 
 array-share-prefix-told : tie.Need-array-share-prefix-told
 array-share-prefix-told c = composed (c .before .before) .inside
@@ -20,7 +27,9 @@ slice-aggregate-put-3 : tie.Need-slice-aggregate-put-3
 slice-aggregate-put-3 c = composed (c .before .before .before) .long
 
 returns : tie.Need-returns
-returns c = put-front (composed (c .before .before .before .before .before .before)) (c .before .before .put2 .ensures)
+returns c =
+    let put = c .before .before in
+    put-front (composed (put .before .before .before .before)) (put .put2 .ensures)
 
 pub put-refusal-spec : {M : Type 1} → statement M
 put-refusal-spec =

@@ -7,11 +7,26 @@ use Rattle.report.proofs.Lines.{result-put}
 use Rattle.report.proofs.put_result.Statement.{statement}
 use Rattle.report.proofs.put_result.Tie as tie
 
+-- how the places of the code follow one another
+abbrev back-from-level : tie.After-put → tie.After-out
+back-from-level c = c .before .before .before .before
+
+abbrev back-from-put : tie.After-put-decimal → tie.After-out2
+back-from-put c = c .before .before .before .before
+
+abbrev back-from-decimal : tie.After-put2 → tie.After-out3
+back-from-decimal c = c .before .before .before .before
+
 returns : tie.Need-returns
 returns c =
-    let result = c .before .before .before .before .before .before .before .before .before .before .before .before .before .before .before .before .before .before .before .before .before .before .before .before .args .result in
+    let verdict = c .before .before in
+    let after = verdict .before .before .before .before in
+    let decimal = back-from-decimal after .before in
+    let between = back-from-put decimal .before in
+    let level = back-from-level between .before in
+    let result = level .before .before .before .args .result in
     let close : Fits w32 (result .close) = search needs in
-    result-put result (close .fits) (c .before .before .before .before .before .before .before .before .before .before .before .before .before .before .before .before .before .before .before .before .before .put-level .ensures) (c .before .before .before .before .before .before .before .before .before .before .before .before .before .before .before .before .put .ensures) (c .before .before .before .before .before .before .before .before .before .before .before .put-decimal .ensures) (c .before .before .before .before .before .before .put2 .ensures) (c .before .before .put-verdict .ensures)
+    result-put result (close .fits) (level .put-level .ensures) (between .put .ensures) (decimal .put-decimal .ensures) (after .put2 .ensures) (verdict .put-verdict .ensures)
 
 pub put-result-spec : {M : Type 1} → statement M
 put-result-spec =

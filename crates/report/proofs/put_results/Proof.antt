@@ -8,11 +8,21 @@ use Rattle.report.proofs.Lines.{answer-front}
 use Rattle.report.proofs.put_results.Statement.{statement}
 use Rattle.report.proofs.put_results.Tie as tie
 
+-- how the places of the code follow one another
+abbrev at-day : tie.After-put-period2 → tie.After-put-period
+at-day c = c .before .before .before .before
+
+abbrev at-heading : tie.After-put-period2 → tie.After-put
+at-heading c = at-day c .before .before .before .before
+
+abbrev start-of : tie.After-put-period2 → tie.Start
+start-of c = at-heading c .before .before .before .before
+
 -- the three lines stand at the front of `lines`
-composed : (c : tie.After-put-period2) → AtFront (answerLines (c .before .before .before .before .before .before .before .before .before .before .before .before .args .day) (c .before .before .before .before .before .before .before .before .before .before .before .before .args .night)) (c .put-period2 .last .0) (c .put-period2 .result)
+composed : (c : tie.After-put-period2) → AtFront (answerLines (start-of c .args .day) (start-of c .args .night)) (c .put-period2 .last .0) (c .put-period2 .result)
 composed c =
-    let start = c .before .before .before .before .before .before .before .before .before .before .before .before in
-    answer-front (start .args .day) (start .args .night) (search needs) (c .before .before .before .before .before .before .before .before .put .ensures) (c .before .before .before .before .put-period .ensures) (c .put-period2 .ensures)
+    let start = start-of c in
+    answer-front (start .args .day) (start .args .night) (search needs) (at-heading c .put .ensures) (at-day c .put-period .ensures) (c .put-period2 .ensures)
 
 array-share-prefix-lines : tie.Need-array-share-prefix-lines
 array-share-prefix-lines c = composed (c .before .before) .inside
@@ -22,8 +32,9 @@ slice-aggregate-put-3 c = composed (c .before .before .before) .long
 
 returns : tie.Need-returns
 returns c =
-    let lines = composed (c .before .before .before .before .before .before) in
-    (put-front lines (c .before .before .put2 .ensures), omega (arith, at-front-short lines))
+    let put = c .before .before in
+    let lines = composed (put .before .before .before .before) in
+    (put-front lines (put .put2 .ensures), omega (arith, at-front-short lines))
 
 pub put-results-spec : {M : Type 1} → statement M
 put-results-spec =

@@ -7,11 +7,11 @@ use Rattle.report.proofs.put_verdict.Tie as tie
 
 returns : tie.Need-returns
 unfolding verdict
-returns c = rw (c .before .before .before .before .before .if1 .taken) (c .before .before .put .ensures)
+returns c = let put = c .before .before in rw (put .before .before .before .if1 .taken) (put .put .ensures)
 
 returns-2 : tie.Need-returns-2
 unfolding verdict
-returns-2 c = rw (c .before .before .before .before .before .if1 .left) (c .before .before .put2 .ensures)
+returns-2 c = let put = c .before .before in rw (put .before .before .before .if1 .left) (put .put2 .ensures)
 
 pub put-verdict-spec : {M : Type 1} → statement M
 put-verdict-spec =

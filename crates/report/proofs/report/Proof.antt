@@ -8,17 +8,31 @@ use Rattle.report.proofs.Reports.{text-answered, text-refused}
 use Rattle.report.proofs.report.Statement.{statement}
 use Rattle.report.proofs.report.Tie as tie
 
+-- how the places of the code follow one another
+abbrev start-of : tie.After-text-levels → tie.Start
+start-of c = let cells = c .before in cells .before .before .before .before
+
+abbrev answered : tie.After-put-results → tie.After-enum-told
+answered c = c .before .before .before .before
+
+abbrev refused : tie.After-put-refusal → tie.After-check
+refused c = c .before .before .before
+
 returns : tie.Need-returns
 returns c =
-    let levels = c .before .before .before .before .before .before .before .before .before in
-    text-answered (levels .before .before .before .before .before .args .text .now) (levels .text-levels .ensures) refl (c .before .before .before .before .before .before .enum-told .given .1) (c .before .before .put-results .ensures .0) (c .before .before .put-results .ensures .1)
+    let put = c .before .before in
+    let told = answered put in
+    let levels = told .before .before .before in
+    text-answered (start-of levels .args .text .now) (levels .text-levels .ensures) refl (told .enum-told .given .1) (put .put-results .ensures .0) (put .put-results .ensures .1)
 
 returns-2 : tie.Need-returns-2
 returns-2 c =
-    let told = c .before .before .before .before .before .before .before .before .before in
+    let notice = c .before .before in
+    let put = notice .before .before .before .before in
+    let told = refused put in
     let levels = told .before .before .before in
     let line : Fits w64 (levels .text-levels .result .line) = search needs in
-    text-refused (levels .before .before .before .before .before .args .text .now) (told .check .given .0 .0) (levels .text-levels .ensures) refl (told .check .given .1) (line .fits) (c .before .before .before .before .before .before .put-refusal .ensures) (c .before .before .notice .ensures)
+    text-refused (start-of levels .args .text .now) (told .check .given .0 .0) (levels .text-levels .ensures) refl (told .check .given .1) (line .fits) (put .put-refusal .ensures) (notice .notice .ensures)
 
 pub report-spec : {M : Type 1} → statement M
 report-spec =

@@ -32,26 +32,33 @@ reading-holds : tie.Need-reading-holds Inv-loop μ-loop Inv-reading μ-reading
 unfolding emptyStudy
 reading-holds c = (omega arith, rw (c .before .no-segment .ensures, c .no-entry .ensures) (record { within = search needs; bound = omega arith; whole = refl }))
 
+-- where the line of a segment was read, and that of a train
+abbrev segment-read : tie.After-known-told2 Inv-loop μ-loop Inv-reading μ-reading → tie.After-segment-at Inv-loop μ-loop Inv-reading μ-reading
+segment-read c = c .before .before .before
+
+abbrev train-read : tie.After-known-told4 Inv-loop μ-loop Inv-reading μ-reading → tie.After-train-at Inv-loop μ-loop Inv-reading μ-reading
+train-read c = c .before .before .before
+
 -- the turn in which a segment was taken, and that in which a train was
 abbrev outer : tie.After-known-told2 Inv-loop μ-loop Inv-reading μ-reading → tie.At-reading Inv-loop μ-loop Inv-reading μ-reading
-outer c = c .before .before .before .before .before
+outer c = segment-read c .before .before
 
 abbrev inner : tie.After-known-told4 Inv-loop μ-loop Inv-reading μ-reading → tie.At-loop Inv-loop μ-loop Inv-reading μ-reading
-inner c = c .before .before .before .before .before
+inner c = train-read c .before .before
 
 -- the segment's line that an inner turn stands below, and the start
 abbrev heading : tie.At-loop Inv-loop μ-loop Inv-reading μ-reading → tie.After-known-told2 Inv-loop μ-loop Inv-reading μ-reading
 heading l = l .before .before
 
 abbrev start : tie.At-reading Inv-loop μ-loop Inv-reading μ-reading → tie.Start Inv-loop μ-loop Inv-reading μ-reading
-start l = l .before .before .before .before .before
+start l = let empty = l .before .before in empty .before .before .before
 
 -- what was accepted has a place in its array
 segment-room : (c : tie.After-known-told2 Inv-loop μ-loop Inv-reading μ-reading) → outer c .reading .s < 24
-segment-room c = segment-taken ours _ _ (segment-found _ (c .before .segment .given .1) (c .before .before .before .segment-at .ensures) .accepted) .room
+segment-room c = segment-taken ours _ _ (segment-found _ (c .before .segment .given .1) (segment-read c .segment-at .ensures) .accepted) .room
 
 train-room : (c : tie.After-known-told4 Inv-loop μ-loop Inv-reading μ-reading) → inner c .loop .total < 96
-train-room c = train-taken ours _ _ _ (train-found _ _ (c .before .train .given .1) (c .before .before .before .train-at .ensures) .accepted) .room
+train-room c = train-taken ours _ _ _ (train-found _ _ (c .before .train .given .1) (train-read c .train-at .ensures) .accepted) .room
 
 mul-end : tie.Need-mul-end Inv-loop μ-loop Inv-reading μ-reading
 mul-end c = omega (arith, c .before .before .before .before .if1 .left, start (outer c) .good .1 .1 .0 .1)

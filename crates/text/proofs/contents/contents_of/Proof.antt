@@ -35,8 +35,11 @@ first c = c .before .first .given .0 .0
 read : (c : tie.After-known-told Inv-loop μ-loop) → numberAt (line c) 0 ≡ N.Value (first c) (c .before .first .given .0 .1 .0)
 read c = sym (c .before .before .before .number-at .ensures) ∙ c .before .first .given .1
 
+abbrev number-read : tie.After-known-told2 Inv-loop μ-loop → tie.After-number-at2 Inv-loop μ-loop
+number-read c = c .before .before .before
+
 abbrev head : tie.After-known-told2 Inv-loop μ-loop → tie.At-loop Inv-loop μ-loop
-head c = c .before .before .before .before .before
+head c = number-read c .before .before
 
 returns : tie.Need-returns Inv-loop μ-loop
 returns c = contents-wrong _ _ (sym (c .before .before .number-at .ensures) ∙ c .enum-told .given .1)
@@ -56,7 +59,7 @@ returns-3 c =
 
 next-read : (c : tie.After-known-told2 Inv-loop μ-loop)
     → numberAt (line (head c .before .before)) (head c .loop .at) ≡ N.Value (c .before .v .given .0 .0) (c .before .v .given .0 .1 .0)
-next-read c = sym (c .before .before .before .number-at2 .ensures) ∙ c .before .v .given .1
+next-read c = sym (number-read c .number-at2 .ensures) ∙ c .before .v .given .1
 
 with-count-requires : tie.Need-with-count-requires Inv-loop μ-loop
 with-count-requires c κs = head (c .before) .loop .inv .1 .room

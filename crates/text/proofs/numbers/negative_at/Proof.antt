@@ -18,7 +18,7 @@ returns-2 c =
 
 -- where the digits after the minus were read
 abbrev start-of : tie.After-positive-at → tie.Start
-start-of a = a .before .before .before .before .before
+start-of a = let minus = a .before in minus .before .before .before .before
 
 returns-3 : tie.Need-returns-3
 returns-3 c =
