@@ -10,7 +10,8 @@ use Rattle.breakdown.proofs.put_study.Tie as tie
 returns : tie.Need-returns
 returns c =
     let entries = c .before .before in
-    let segments = entries .before .before .before .before .before in
+    let lent = entries .before .before in
+    let segments = lent .before .before .before in
     let asked = segments .before .before .before in
     let start = asked .before .before .before in
     let plan = planOf (start .args .study) in

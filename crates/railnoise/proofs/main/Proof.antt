@@ -15,7 +15,10 @@ array-share-prefix-notice : tie.Need-array-share-prefix-notice
 array-share-prefix-notice c = whole-at-front (c .before .before .before .before .report .ensures .told) (c .before .before .before .before .report .ensures .toldRoom) (search needs) .inside
 
 slice-aggregate-write-all-2 : tie.Need-slice-aggregate-write-all-2
-slice-aggregate-write-all-2 c = whole-at-front (c .before .before .before .before .before .report .ensures .told) (c .before .before .before .before .before .report .ensures .toldRoom) (search needs) .long
+slice-aggregate-write-all-2 c =
+    let shown = c .before .before in
+    let told = shown .before .before .before .report .ensures in
+    whole-at-front (told .told) (told .toldRoom) (search needs) .long
 
 pub main-spec : {M : Type 1} → statement M
 main-spec =

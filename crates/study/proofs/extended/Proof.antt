@@ -32,8 +32,11 @@ loop-holds c = (
 
 loop2-again : tie.Need-loop2-again Inv-loop2 μ-loop2 Inv-loop μ-loop
 loop2-again c =
-    let v = c .before .before .before .before .loop2 in
-    let a = c .before .before .before .before .before .before .before .before .before .before .before .before .args in
+    let inner = c .before .before .before .before in
+    let v = inner .loop2 in
+    let tried = inner .before .before in
+    let outer = tried .before .before .before in
+    let a = outer .before .before .before .args in
     let st = heldBy (a .t2) (a .count) (a .t4) (a .total) in
     let h : v .i < length (planOf st .entries) = omega arith in
     let same = plan-entry st (v .i) h in (
@@ -44,8 +47,9 @@ loop2-again c =
 loop-again : tie.Need-loop-again Inv-loop2 μ-loop2 Inv-loop μ-loop
 loop-again c =
     let tried = c .before .before .before in
-    let v = tried .before .before .before .loop in
-    let a = tried .before .before .before .before .before .before .args in
+    let outer = tried .before .before .before in
+    let v = outer .loop in
+    let a = outer .before .before .before .args in
     let st = heldBy (a .t2) (a .count) (a .t4) (a .total) in
     let h : v .k < length (planOf st .segments) = omega arith in
     (omega arith, v .inv .1, segment-tried (planOf st) h (v .inv .2) (plan-segment st (v .k) h) (tried .add-segment .ensures) (omega arith) (c .before .loop2 .inv .1))

@@ -29,7 +29,7 @@ abbrev at-period-2 : tie.After-close4 → tie.After-fill
 at-period-2 c = at-night (c .before .before)
 
 abbrev propagated : tie.After-fill → tie.After-propagate
-propagated c = c .before .before .before .before .before .before .before
+propagated c = let arrays = c .before .before .before .before in arrays .before .before .before
 
 abbrev start-of : tie.After-fill → tie.Start
 start-of c = propagated c .before .before .before
@@ -96,7 +96,8 @@ returns : tie.Need-returns
 returns c =
     let close = c .before in
     let period = close .before .before .before in
-    let second = period .before .before .before .before .before in
+    let lent = period .before .before .before in
+    let second = lent .before .before in
     let first = second .before .before .before .before in
     let f = at-period-2 close in
     let start = start-of f in

@@ -27,8 +27,9 @@ slice-aggregate-mark c = sym (c .before .before .loop .inv .2 .size)
 loop-again : tie.Need-loop-again Inv-loop μ-loop
 loop-again c =
     let arg = c .before .before in
-    let v = arg .before .before .before .before .loop in
-    let a = arg .before .before .before .before .before .before .args in (
+    let head = arg .before .before .before .before in
+    let v = head .loop in
+    let a = head .before .before .args in (
       omega arith,
       v .inv .1,
       subst (HeardTo (a .places .now) (a .levels .now) (v .i + 1)) (sym (c .before .mark .ensures))
