@@ -11,7 +11,7 @@ use borrow.Author.Tests.{le-leb, ne-eqb, eqb-true, eqb-false}
 use lib.Dec.{leb, eqb}
 use lib.IntN.{ℤ, pos, negsuc, natAbs}
 use lib.ListN.{length, getD}
-use Rattle.text.specs.Numbers.{decimal, unsigned, negated, plain, valueOf}
+use Rattle.lines.specs.Numbers.{decimal, unsigned, negated, plain, valueOf}
 use Rattle.writing.specs.Bytes.{digitsOf, sign, signedOf}
 use Rattle.writing.proofs.Digits.{digits-small, digits-length, one-digit}
 use Rattle.writing.proofs.Forms.{DigitReader, First, first-digit, reads-back, only-form, only-digit, not-below}

@@ -19,17 +19,16 @@ use Rattle.study.specs.Plan.{Plan, planOf, emptyStudy}
 use Rattle.study.specs.Add.{Limits, segmentAnswer, trainAnswer, withSegment, withTrain, answer, addSegment, addTrain}
 use Rattle.study.specs.Run.{run, accepted, LimitsFit}
 use Rattle.study.proofs.Runs.{run-sized, rows-length, run-accepted}
-use Rattle.text.specs.Numbers.{numbersOf}
-use Rattle.text.specs.Lines.{segmentOf, trainOf}
-use Rattle.text.specs.Contents.{Read, refused, counts, isCount, countsIn, sumOf, between, inAll, contentsIn, contentsOf}
-use Rattle.text.specs.Text.{Line, ended, unended, linesOf, Kind, kindsOf, segmentAdds, trainAdds, addLine, refusedAt, readLines, readBody, readFrom, readText}
-use Rattle.text.specs.Text as K
+use Rattle.lines.specs.Numbers.{numbersOf}
+use Rattle.lines.specs.Lines.{segmentOf, trainOf}
+use Rattle.lines.specs.Contents.{Read, refused, counts, isCount, countsIn, sumOf, between, inAll, contentsIn, contentsOf}
+use Rattle.text.specs.Text.{Line, ended, unended, linesOf, Kind, segmentKind, trainKind, kindsOf, segmentAdds, trainAdds, addLine, refusedAt, readLines, readBody, readFrom, readText}
 use Rattle.text.specs.Additions.{additionsOf}
 use Rattle.text.specs.declared.Reading.{Reading}
-use Rattle.text.specs.declared.lines.SegmentLine.{SegmentLine}
-use Rattle.text.specs.declared.lines.SegmentLine.the-variants as S
-use Rattle.text.specs.declared.lines.TrainLine.{TrainLine}
-use Rattle.text.specs.declared.lines.TrainLine.the-variants as T
+use Rattle.lines.specs.declared.fields.SegmentLine.{SegmentLine}
+use Rattle.lines.specs.declared.fields.SegmentLine.the-variants as S
+use Rattle.lines.specs.declared.fields.TrainLine.{TrainLine}
+use Rattle.lines.specs.declared.fields.TrainLine.the-variants as T
 use Rattle.text.proofs.Runs.{after-accepted, accepted-text-is-run}
 use Rattle.text.proofs.Refusals.{trainsIn, kinds-trains}
 
@@ -43,14 +42,14 @@ accepted-new (Refused r) old new e = refused-not e
 line-total : (l : Limits) (p : Kind) (st : Study) (x : Line) (ps : List Kind) → addLine l p st x .check ≡ Accepted → addLine l p st x .study .total + trainsIn ps ≡ st .total + trainsIn (p ∷ ps)
 unfolding addLine addSegment addTrain withSegment withTrain
 line-total l p st unended ps e = refused-not e
-line-total l K.Segment st (ended line) ps e = go (segmentOf line) e
+line-total l segmentKind st (ended line) ps e = go (segmentOf line) e
   where
     go : (r : SegmentLine) → segmentAdds l st r .check ≡ Accepted → segmentAdds l st r .study .total + trainsIn ps ≡ st .total + trainsIn ps
     go S.Malformed f = refused-not f
     go (S.Fields s) f = ap (λ (new : Study). new .total + trainsIn ps) (accepted-new (segmentAnswer l (st .count) s) st (withSegment st s) f)
-line-total l K.Train st (ended line) ps e = go (trainOf line) e
+line-total l trainKind st (ended line) ps e = go (trainOf line) e
   where
-    go : (r : TrainLine) → trainAdds l st r .check ≡ Accepted → trainAdds l st r .study .total + trainsIn ps ≡ st .total + trainsIn (K.Train ∷ ps)
+    go : (r : TrainLine) → trainAdds l st r .check ≡ Accepted → trainAdds l st r .study .total + trainsIn ps ≡ st .total + trainsIn (trainKind ∷ ps)
     go T.Malformed f = refused-not f
     go (T.Fields t) f = ap (λ (new : Study). new .total + trainsIn ps) (accepted-new (trainAnswer l (st .count) (st .total) t) st (withTrain st t) f) ∙ omega arith
 

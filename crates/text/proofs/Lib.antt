@@ -1,10 +1,3 @@
-pub mod Cases
-pub mod Bytes
-pub mod Digits
-pub mod Values
-pub mod Positions
-pub mod Fields
-pub mod Entries
 pub mod Places
 pub mod Rest
 pub mod Runs

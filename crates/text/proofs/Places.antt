@@ -15,18 +15,18 @@ use Rattle.figures.specs.declared.Check.the-variants.{Accepted, Refused}
 use Rattle.figures.specs.declared.Segment.{Segment}
 use Rattle.figures.specs.declared.Train.{Train}
 use Rattle.study.specs.Add.{ours}
-use Rattle.text.specs.Bytes.{until, split}
-use Rattle.text.specs.Lines.{segmentOf, trainOf}
+use Rattle.lines.specs.Bytes.{until, split}
+use Rattle.lines.specs.Lines.{segmentOf, trainOf}
 use Rattle.text.specs.Text.{ended, unended, lastLine, linesIn, linesOf}
 use Rattle.text.specs.Private.{Found, firstAnswer, segmentLineAnswer, trainLineAnswer, SegmentAt, TrainAt, faultOf}
-use Rattle.text.specs.declared.lines.SegmentLine.the-variants as S
-use Rattle.text.specs.declared.lines.TrainLine.the-variants as T
+use Rattle.lines.specs.declared.fields.SegmentLine.the-variants as S
+use Rattle.lines.specs.declared.fields.TrainLine.the-variants as T
 use Rattle.text.specs.declared.SegmentStep.{SegmentStep}
 use Rattle.text.specs.declared.SegmentStep.the-variants as SS
 use Rattle.text.specs.declared.TrainStep.{TrainStep}
 use Rattle.text.specs.declared.TrainStep.the-variants as TS
-use Rattle.text.proofs.Bytes.{split-first, until-within}
-use Rattle.text.proofs.Cases.{lt-or-ge}
+use Rattle.lines.proofs.Bytes.{split-first, until-within}
+use Rattle.lines.proofs.Cases.{lt-or-ge}
 
 last-torn : (u : List ℕ) → 0 < length u → lastLine u ≡ unended ∷ []
 last-torn [] h = absurd (omega arith)

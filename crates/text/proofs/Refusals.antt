@@ -25,16 +25,15 @@ use Rattle.study.specs.declared.Study.{Study}
 use Rattle.study.specs.declared.Added.{Added}
 use Rattle.study.specs.Plan.{emptyStudy}
 use Rattle.study.specs.Add.{Limits, segmentLimit, segmentAnswer, trainLimit, trainAnswer, withSegment, withTrain, answer, addSegment, addTrain}
-use Rattle.text.specs.Numbers.{front, numbersOf}
-use Rattle.text.specs.Lines.{segmentOf, trainOf}
-use Rattle.text.specs.Contents.{Read, refused, counts, isCount, countsIn, sumOf, between, inAll, contentsIn, contentsOf}
-use Rattle.text.specs.Text.{Line, ended, unended, linesOf, Kind, trains, kindsOf, refusedAddition, segmentAdds, trainAdds, addLine, refusedAt, after, readLines, readBody, readFrom, readText}
-use Rattle.text.specs.Text as K
+use Rattle.lines.specs.Numbers.{front, numbersOf}
+use Rattle.lines.specs.Lines.{segmentOf, trainOf}
+use Rattle.lines.specs.Contents.{Read, refused, counts, isCount, countsIn, sumOf, between, inAll, contentsIn, contentsOf}
+use Rattle.text.specs.Text.{Line, ended, unended, linesOf, Kind, segmentKind, trainKind, trains, kindsOf, refusedAddition, segmentAdds, trainAdds, addLine, refusedAt, after, readLines, readBody, readFrom, readText}
 use Rattle.text.specs.declared.Reading.{Reading}
-use Rattle.text.specs.declared.lines.SegmentLine.{SegmentLine}
-use Rattle.text.specs.declared.lines.SegmentLine.the-variants as S
-use Rattle.text.specs.declared.lines.TrainLine.{TrainLine}
-use Rattle.text.specs.declared.lines.TrainLine.the-variants as T
+use Rattle.lines.specs.declared.fields.SegmentLine.{SegmentLine}
+use Rattle.lines.specs.declared.fields.SegmentLine.the-variants as S
+use Rattle.lines.specs.declared.fields.TrainLine.{TrainLine}
+use Rattle.lines.specs.declared.fields.TrainLine.the-variants as T
 
 -- accepted, or refused by a number up to 13
 abbrev Own : Check → Type 0
@@ -61,23 +60,23 @@ train-own t =
 -- how many lines of each kind are to come, and that a train's line has a segment before it
 abbrev segmentsIn : List Kind → ℕ
 segmentsIn [] = 0
-segmentsIn (K.Segment ∷ ps) = suc (segmentsIn ps)
-segmentsIn (K.Train ∷ ps) = segmentsIn ps
+segmentsIn (segmentKind ∷ ps) = suc (segmentsIn ps)
+segmentsIn (trainKind ∷ ps) = segmentsIn ps
 
 abbrev pub trainsIn : List Kind → ℕ
 trainsIn [] = 0
-trainsIn (K.Segment ∷ ps) = trainsIn ps
-trainsIn (K.Train ∷ ps) = suc (trainsIn ps)
+trainsIn (segmentKind ∷ ps) = trainsIn ps
+trainsIn (trainKind ∷ ps) = suc (trainsIn ps)
 
 abbrev Led : ℕ → List Kind → Type 0
 Led count [] = Unit {0}
-Led count (K.Segment ∷ ps) = Unit {0}
-Led count (K.Train ∷ ps) = 0 < count
+Led count (segmentKind ∷ ps) = Unit {0}
+Led count (trainKind ∷ ps) = 0 < count
 
 led : (count : ℕ) (ps : List Kind) → 0 < count → Led count ps
 led count [] h = tt
-led count (K.Segment ∷ ps) h = tt
-led count (K.Train ∷ ps) h = h
+led count (segmentKind ∷ ps) h = tt
+led count (trainKind ∷ ps) h = h
 
 -- room for the lines to come
 record Room (l : Limits) (st : Study) (ps : List Kind) : Type 0 where
@@ -99,14 +98,14 @@ module _ (l : Limits) (st : Study) (ps : List Kind) where
   unfolding checkNumber numberOf
   malformed-fine = (omega arith, λ e. refused-not e)
 
-  segment-fine : Room l st (K.Segment ∷ ps) → (s : Segment) → Fine l ps (addSegment l st s)
+  segment-fine : Room l st (segmentKind ∷ ps) → (s : Segment) → Fine l ps (addSegment l st s)
   unfolding addSegment segmentAnswer segmentLimit withSegment unless firstRefused
   segment-fine h s =
       rw (lt-leb (l .segments) (st .count) (omega (arith, h .segments)))
       (answer-fine (segmentCheck s) (withSegment st s) (segment-own s)
       (record { segments = omega (arith, h .segments); entries = h .entries; begun = led (st .count + 1) ps (omega arith) }))
 
-  train-fine : Room l st (K.Train ∷ ps) → (t : Train) → Fine l ps (addTrain l st t)
+  train-fine : Room l st (trainKind ∷ ps) → (t : Train) → Fine l ps (addTrain l st t)
   unfolding addTrain trainAnswer trainLimit withTrain unless firstRefused
   train-fine h t =
       rw (ne-eqb (st .count) 0 (omega (arith, h .begun)), lt-leb (l .entries) (st .total) (omega (arith, h .entries)))
@@ -116,12 +115,12 @@ module _ (l : Limits) (st : Study) (ps : List Kind) where
 line-fine : (l : Limits) (p : Kind) (st : Study) (ps : List Kind) (x : Line) → Room l st (p ∷ ps) → Fine l ps (addLine l p st x)
 unfolding addLine
 line-fine l p st ps unended h = malformed-fine l st ps
-line-fine l K.Segment st ps (ended line) h = go (segmentOf line)
+line-fine l segmentKind st ps (ended line) h = go (segmentOf line)
   where
     go : (r : SegmentLine) → Fine l ps (segmentAdds l st r)
     go S.Malformed = malformed-fine l st ps
     go (S.Fields s) = segment-fine l st ps h s
-line-fine l K.Train st ps (ended line) h = go (trainOf line)
+line-fine l trainKind st ps (ended line) h = go (trainOf line)
   where
     go : (r : TrainLine) → Fine l ps (trainAdds l st r)
     go T.Malformed = malformed-fine l st ps

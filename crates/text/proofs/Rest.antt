@@ -16,20 +16,19 @@ use Rattle.figures.specs.declared.Check.the-variants.{Refused}
 use Rattle.study.specs.declared.Study.{Study}
 use Rattle.study.specs.Plan.{emptyStudy}
 use Rattle.study.specs.Add.{Limits, answer, withSegment, withTrain, addSegment, addTrain}
-use Rattle.text.specs.Bytes.{until}
-use Rattle.text.specs.Lines.{segmentOf, trainOf}
-use Rattle.text.specs.Contents.{Read, refused, counts, contentsOf}
-use Rattle.text.specs.Text as K
-use Rattle.text.specs.Text.{Line, ended, unended, linesOf, Kind, trains, kindsOf, segmentAdds, trainAdds, addLine, acceptedWith, refusedAt, readLines, readBody, readFrom, readText}
-use Rattle.text.specs.Private.{Found, segmentLineAnswer, trainLineAnswer, firstAnswer, ContentsRead}
+use Rattle.lines.specs.Bytes.{until}
+use Rattle.lines.specs.Lines.{segmentOf, trainOf}
+use Rattle.lines.specs.Contents.{contentsOf, readAs, ContentsRead}
+use Rattle.text.specs.Text.{Line, ended, unended, linesOf, Kind, segmentKind, trainKind, trains, kindsOf, segmentAdds, trainAdds, addLine, acceptedWith, refusedAt, readLines, readBody, readFrom, readText}
+use Rattle.text.specs.Private.{Found, segmentLineAnswer, trainLineAnswer, firstAnswer}
 use Rattle.text.specs.declared.Reading.{Reading}
-use Rattle.text.specs.declared.contents.Contents.{Contents}
-use Rattle.text.specs.declared.contents.Contents.the-variants as C
-use Rattle.text.specs.declared.lines.SegmentLine.{SegmentLine}
-use Rattle.text.specs.declared.lines.SegmentLine.the-variants as S
-use Rattle.text.specs.declared.lines.TrainLine.{TrainLine}
-use Rattle.text.specs.declared.lines.TrainLine.the-variants as T
-use Rattle.text.proofs.Bytes.{until-within}
+use Rattle.lines.specs.declared.contents.Contents.{Contents}
+use Rattle.lines.specs.declared.contents.Contents.the-variants as C
+use Rattle.lines.specs.declared.fields.SegmentLine.{SegmentLine}
+use Rattle.lines.specs.declared.fields.SegmentLine.the-variants as S
+use Rattle.lines.specs.declared.fields.TrainLine.{TrainLine}
+use Rattle.lines.specs.declared.fields.TrainLine.the-variants as T
+use Rattle.lines.proofs.Bytes.{until-within}
 use Rattle.text.proofs.Places.{View, at-end, at-torn, at-line, view}
 
 -- ---- a kind of line: what is read of it, what that answers, and the study that it makes where it is accepted
@@ -51,7 +50,7 @@ trainNew st last (T.Fields t) =
     record { segments = st .segments; count = st .count; entries = set (st .entries) (st .total) (record { segment = last; train = t }); total = st .total + 1 }
 
 module _ (l : Limits) (st : Study) where
-  pub segment-adds : (line : List ℕ) → addLine l K.Segment st (ended line) ≡ answer (segmentLineAnswer l (st .count) (segmentOf line)) st (segmentNew st (segmentOf line))
+  pub segment-adds : (line : List ℕ) → addLine l segmentKind st (ended line) ≡ answer (segmentLineAnswer l (st .count) (segmentOf line)) st (segmentNew st (segmentOf line))
   unfolding addLine addSegment answer
   segment-adds line = go (segmentOf line)
     where
@@ -59,11 +58,11 @@ module _ (l : Limits) (st : Study) where
       go S.Malformed = refl
       go (S.Fields s) = refl
 
-  abbrev pub segmentReader : Reader l K.Segment st SegmentLine
+  abbrev pub segmentReader : Reader l segmentKind st SegmentLine
   segmentReader = record { read = segmentOf; answers = segmentLineAnswer l (st .count); new = segmentNew st; adds = segment-adds }
 
   module _ (last : ℕ) (e : st .count ≡ last + 1) where
-    pub train-adds : (line : List ℕ) → addLine l K.Train st (ended line) ≡ answer (trainLineAnswer l (st .count) (st .total) (trainOf line)) st (trainNew st last (trainOf line))
+    pub train-adds : (line : List ℕ) → addLine l trainKind st (ended line) ≡ answer (trainLineAnswer l (st .count) (st .total) (trainOf line)) st (trainNew st last (trainOf line))
     unfolding addLine addTrain withTrain answer
     train-adds line = go (trainOf line)
       where
@@ -71,7 +70,7 @@ module _ (l : Limits) (st : Study) where
         go T.Malformed = refl
         go (T.Fields t) = let z : st .count - 1 ≡ last = omega arith in rw z
 
-    abbrev pub trainReader : Reader l K.Train st TrainLine
+    abbrev pub trainReader : Reader l trainKind st TrainLine
     trainReader = record { read = trainOf; answers = trainLineAnswer l (st .count) (st .total); new = trainNew st last; adds = train-adds }
 
 -- a first line that is refused is at fault
@@ -112,7 +111,7 @@ pub record Rest (l : Limits) (text : List ℕ) (start : ℕ) (counts : List ℕ)
 module _ {l : Limits} {text : List ℕ} {start : ℕ} {counts : List ℕ} {st : Study} {at k : ℕ} where
   -- the kinds of line to come
   module _ (i : ℕ) (r : Rest l text start counts st at k (kindsOf (drop i counts))) where
-    pub rest-segment : i < length counts → Rest l text start counts st at k (K.Segment ∷ trains (getD counts i 0) (kindsOf (drop (i + 1) counts)))
+    pub rest-segment : i < length counts → Rest l text start counts st at k (segmentKind ∷ trains (getD counts i 0) (kindsOf (drop (i + 1) counts)))
     unfolding kindsOf
     rest-segment h = rw add-one (rw (drop-cons counts i 0 h) at r)
 
@@ -124,7 +123,7 @@ module _ {l : Limits} {text : List ℕ} {start : ℕ} {counts : List ℕ} {st : 
   rest-trains n ps r = rw (sub-zero n) r
 
   module _ (n j : ℕ) (ps : List Kind) (r : Rest l text start counts st at k (trains (n - j) ps)) where
-    pub rest-train : j < n → Rest l text start counts st at k (K.Train ∷ trains (n - (j + 1)) ps)
+    pub rest-train : j < n → Rest l text start counts st at k (trainKind ∷ trains (n - (j + 1)) ps)
     unfolding trains
     rest-train h = let e : n - j ≡ suc (n - (j + 1)) = omega arith in rw e at r
 
@@ -192,16 +191,17 @@ module _ (l : Limits) (text : List ℕ) where
         pub text-within : length line + 1 ≤ length text
         text-within = omega (arith, n, ap length q, until-within 10 text 0 (omega arith))
 
-module _ (l : Limits) (list : List ℕ) {r : Contents} (x : Read) (e : ContentsRead x list r) where
-  pub body-refused : (xs : List Line) {f : Refusal} → r ≡ C.Refused f → refusedAt f 1 ≡ readBody l x xs
-  body-refused xs {f} q = let z : x ≡ refused f = rw q at e in rw z
+-- the contents, read into as many counts as there may be segments
+module _ (l : Limits) {line before after : List ℕ} (lent : length before ≡ l .segments) {r : Contents} (e : ContentsRead (l .entries) line before after r) where
+  contents-are : readAs r after ≡ contentsOf l line
+  contents-are = rw lent at (e .is)
+
+  pub body-refused : (xs : List Line) {f : Refusal} → r ≡ C.Refused f → refusedAt f 1 ≡ readBody l (contentsOf l line) xs
+  body-refused xs q = rw (← contents-are, q)
 
   module _ {n : ℕ} (q : r ≡ C.Counts n) where
-    counted : (n ≤ length list) × (x ≡ counts (take n list))
-    counted = rw q at e
+    pub body-room : n ≤ length after
+    body-room = rw q at (e .room)
 
-    pub body-room : n ≤ length list
-    body-room = counted .0
-
-    pub body-read : (xs : List Line) → readLines l emptyStudy 2 (kindsOf (take n list)) xs ≡ readBody l x xs
-    body-read xs = rw (counted .1)
+    pub body-read : (xs : List Line) → readLines l emptyStudy 2 (kindsOf (take n after)) xs ≡ readBody l (contentsOf l line) xs
+    body-read xs = rw (← contents-are, q)

@@ -16,28 +16,27 @@ use Rattle.study.specs.Plan.{planOf, emptyStudy}
 use Rattle.study.specs.Add.{Limits}
 use Rattle.study.specs.Run.{Addition, step, runFrom, run, LimitsFit, listed}
 use Rattle.study.proofs.Listed.{run-listed}
-use Rattle.text.specs.Lines.{segmentOf, trainOf}
-use Rattle.text.specs.Contents.{Read, refused, counts, contentsOf}
-use Rattle.text.specs.Text.{Line, ended, unended, linesOf, Kind, kindsOf, segmentAdds, trainAdds, addLine, refusedAt, after, readLines, readBody, readFrom, readText}
+use Rattle.lines.specs.Lines.{segmentOf, trainOf}
+use Rattle.lines.specs.Contents.{Read, refused, counts, contentsOf}
+use Rattle.text.specs.Text.{Line, ended, unended, linesOf, Kind, segmentKind, trainKind, kindsOf, segmentAdds, trainAdds, addLine, refusedAt, after, readLines, readBody, readFrom, readText}
 use Rattle.text.specs.Additions.{segmentAddition, trainAddition, lineAdditions, linesAdditions, bodyAdditions, additionsIn, additionsOf}
-use Rattle.text.specs.Text as K
 use Rattle.text.specs.declared.Reading.{Reading}
-use Rattle.text.specs.declared.lines.SegmentLine.{SegmentLine}
-use Rattle.text.specs.declared.lines.SegmentLine.the-variants as S
-use Rattle.text.specs.declared.lines.TrainLine.{TrainLine}
-use Rattle.text.specs.declared.lines.TrainLine.the-variants as T
+use Rattle.lines.specs.declared.fields.SegmentLine.{SegmentLine}
+use Rattle.lines.specs.declared.fields.SegmentLine.the-variants as S
+use Rattle.lines.specs.declared.fields.TrainLine.{TrainLine}
+use Rattle.lines.specs.declared.fields.TrainLine.the-variants as T
 
 -- an accepted line is its addition
 line-runs : (l : Limits) (p : Kind) (st : Study) (x : Line) (rest : List Addition) → addLine l p st x .check ≡ Accepted
     → runFrom l (addLine l p st x .study) rest ≡ runFrom l st (lineAdditions p x ++ rest)
 unfolding addLine lineAdditions runFrom step
 line-runs l p st unended rest e = refused-not e
-line-runs l K.Segment st (ended line) rest e = go (segmentOf line) e
+line-runs l segmentKind st (ended line) rest e = go (segmentOf line) e
   where
     go : (r : SegmentLine) → segmentAdds l st r .check ≡ Accepted → runFrom l (segmentAdds l st r .study) rest ≡ runFrom l st (segmentAddition r ++ rest)
     go S.Malformed f = refused-not f
     go (S.Fields s) f = refl
-line-runs l K.Train st (ended line) rest e = go (trainOf line) e
+line-runs l trainKind st (ended line) rest e = go (trainOf line) e
   where
     go : (r : TrainLine) → trainAdds l st r .check ≡ Accepted → runFrom l (trainAdds l st r .study) rest ≡ runFrom l st (trainAddition r ++ rest)
     go T.Malformed f = refused-not f

@@ -5,13 +5,13 @@ use mathlib.Core.List.{List, [], _∷_, _++_}
 use Rattle.study.specs.Add.{Limits}
 use Rattle.study.specs.Run.{Addition}
 use Rattle.study.specs.Run as Run
-use Rattle.text.specs.Lines.{segmentOf, trainOf}
-use Rattle.text.specs.Contents.{Read, refused, counts, contentsOf}
-use Rattle.text.specs.Text.{Line, ended, unended, linesOf, Kind, Segment, Train, kindsOf}
-use Rattle.text.specs.declared.lines.SegmentLine.{SegmentLine}
-use Rattle.text.specs.declared.lines.SegmentLine.the-variants as S
-use Rattle.text.specs.declared.lines.TrainLine.{TrainLine}
-use Rattle.text.specs.declared.lines.TrainLine.the-variants as T
+use Rattle.lines.specs.Lines.{segmentOf, trainOf}
+use Rattle.lines.specs.Contents.{Read, refused, counts, contentsOf}
+use Rattle.text.specs.Text.{Line, ended, unended, linesOf, Kind, segmentKind, trainKind, kindsOf}
+use Rattle.lines.specs.declared.fields.SegmentLine.{SegmentLine}
+use Rattle.lines.specs.declared.fields.SegmentLine.the-variants as S
+use Rattle.lines.specs.declared.fields.TrainLine.{TrainLine}
+use Rattle.lines.specs.declared.fields.TrainLine.the-variants as T
 
 -- one addition, or none for a line that is malformed
 abbrev pub segmentAddition : SegmentLine → List Addition
@@ -24,8 +24,8 @@ trainAddition (T.Fields t) = Run.train t ∷ []
 
 unfoldable pub lineAdditions : Kind → Line → List Addition
 lineAdditions kind unended = []
-lineAdditions Segment (ended line) = segmentAddition (segmentOf line)
-lineAdditions Train (ended line) = trainAddition (trainOf line)
+lineAdditions segmentKind (ended line) = segmentAddition (segmentOf line)
+lineAdditions trainKind (ended line) = trainAddition (trainOf line)
 
 unfoldable pub linesAdditions : List Kind → List Line → List Addition
 linesAdditions [] xs = []

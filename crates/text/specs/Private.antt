@@ -1,30 +1,20 @@
--- What private contracts alone cite: the enums' cases, and what is read from a position on.
+-- What private contracts alone cite: what is read at a position of the text, and the lists that it gives.
 -- Assumes nothing.
 use mathlib.Core.Path.{_≡_}
 use Prim.Native.Nat.{ℕ, _≤_, _<_}
-use mathlib.Core.List.{List, [], _∷_, _++_}
-use mathlib.Core.Bool.{cond}
-use mathlib.Core.Option.{Option, some}
-use lib.ListN.{length, take, drop}
-use lib.Dec.{leb}
-use lib.IntN.{ℤ}
+use mathlib.Core.List.{List, [], _∷_}
+use lib.ListN.{length, drop}
 use Rattle.figures.specs.declared.Refusal.{Refusal}
 use Rattle.figures.specs.declared.Refusal.the-variants.{Form, Contents}
 use Rattle.figures.specs.declared.Check.{Check}
 use Rattle.figures.specs.declared.Check.the-variants.{Accepted, Refused}
 use Rattle.study.specs.Add.{Limits, ours, segmentAnswer, trainAnswer}
-use Rattle.text.specs.Numbers.{numbersOf}
-use Rattle.text.specs.Contents.{Read, refused, counts, countsIn, sumOf, between, inAll}
-use Rattle.text.specs.Lines.{segmentOf, trainOf}
+use Rattle.lines.specs.Lines.{segmentOf, trainOf}
 use Rattle.text.specs.Text.{Line, ended, unended, linesOf}
-use Rattle.text.specs.declared.contents.Sum.{Sum}
-use Rattle.text.specs.declared.contents.Sum.the-variants as U
-use Rattle.text.specs.declared.contents.Contents as contents
-use Rattle.text.specs.declared.contents.Contents.the-variants as C
-use Rattle.text.specs.declared.lines.SegmentLine.{SegmentLine}
-use Rattle.text.specs.declared.lines.SegmentLine.the-variants as S
-use Rattle.text.specs.declared.lines.TrainLine.{TrainLine}
-use Rattle.text.specs.declared.lines.TrainLine.the-variants as T
+use Rattle.lines.specs.declared.fields.SegmentLine.{SegmentLine}
+use Rattle.lines.specs.declared.fields.SegmentLine.the-variants as S
+use Rattle.lines.specs.declared.fields.TrainLine.{TrainLine}
+use Rattle.lines.specs.declared.fields.TrainLine.the-variants as T
 use Rattle.study.specs.Plan.{heldBy}
 use Rattle.text.specs.declared.Reading.{Reading}
 use Rattle.text.specs.declared.Lists.{Lists}
@@ -32,44 +22,6 @@ use Rattle.text.specs.declared.SegmentStep.{SegmentStep}
 use Rattle.text.specs.declared.SegmentStep.the-variants as SS
 use Rattle.text.specs.declared.TrainStep.{TrainStep}
 use Rattle.text.specs.declared.TrainStep.the-variants as TS
-
--- ---- numbers
-
--- the numbers of a line from a position on; past its end there are none
-unfoldable pub numbersFrom : List ℕ → ℕ → Option (List ℤ)
-numbersFrom line at = cond (leb at (length line)) (numbersOf (drop at line)) (some [])
-
--- ---- the contents
-
--- the limits that a call hands over
-abbrev pub limits : ℕ → ℕ → Limits
-limits segments entries = record { segments = segments; entries = entries }
-
--- what entry counts give, all of the right form and as many as announced
-abbrev pub countsRead : Limits → List ℤ → Read
-countsRead l vs = cond (between 1 (l .segments) (length vs)) (inAll l (countsIn (l .entries) vs)) (refused Contents)
-
--- the numbers vs are entry counts in range, held at the front of the list, of that sum
-pub record Held (l : Limits) (vs : List ℤ) (list : List ℕ) (sum : ℕ) : Type 0 where
-  pub few : length vs ≤ l .segments
-  pub are : countsIn (l .entries) vs ≡ some (take (length vs) list)
-  pub sum-is : sum ≡ sumOf (take (length vs) list)
-  pub within : sum ≤ l .entries
-
--- they are held, or they are out of range whatever follows them
-abbrev pub Summed : Limits → List ℤ → List ℕ → Sum → Type 0
-Summed l vs list (U.Within sum) = Held l vs list sum
-Summed l vs list U.Exceeded = (us : List ℤ) → countsRead l (vs ++ us) ≡ refused Contents
-
--- one more after n of them
-pub record Counted (l : Limits) (n : ℕ) (v : ℤ) (before : List ℕ) (from : Sum) (after : List ℕ) (to : Sum) : Type 0 where
-  pub size : length after ≡ length before
-  pub next : (vs : List ℤ) → length vs ≡ n → Summed l vs before from → Summed l (vs ++ (v ∷ [])) after to
-
--- the counts are the first of the list
-abbrev pub ContentsRead : Read → List ℕ → contents.Contents → Type 0
-ContentsRead x list (C.Counts n) = (n ≤ length list) × (x ≡ counts (take n list))
-ContentsRead x list (C.Refused r) = x ≡ refused r
 
 -- ---- the line at a position of the text
 

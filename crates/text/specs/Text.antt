@@ -13,13 +13,13 @@ use Rattle.study.specs.declared.Study.{Study}
 use Rattle.study.specs.declared.Added.{Added}
 use Rattle.study.specs.Plan.{emptyStudy}
 use Rattle.study.specs.Add.{Limits, addSegment, addTrain}
-use Rattle.text.specs.Bytes.{split}
-use Rattle.text.specs.Lines.{segmentOf, trainOf}
-use Rattle.text.specs.Contents.{Read, refused, counts, contentsOf}
-use Rattle.text.specs.declared.lines.SegmentLine.{SegmentLine}
-use Rattle.text.specs.declared.lines.SegmentLine.the-variants as S
-use Rattle.text.specs.declared.lines.TrainLine.{TrainLine}
-use Rattle.text.specs.declared.lines.TrainLine.the-variants as T
+use Rattle.lines.specs.Bytes.{split}
+use Rattle.lines.specs.Lines.{segmentOf, trainOf}
+use Rattle.lines.specs.Contents.{Read, refused, counts, contentsOf}
+use Rattle.lines.specs.declared.fields.SegmentLine.{SegmentLine}
+use Rattle.lines.specs.declared.fields.SegmentLine.the-variants as S
+use Rattle.lines.specs.declared.fields.TrainLine.{TrainLine}
+use Rattle.lines.specs.declared.fields.TrainLine.the-variants as T
 use Rattle.text.specs.declared.Reading.{Reading}
 
 -- "a line feed after each line": a line that one ends, without it; or bytes at the end of the text that none ends
@@ -42,18 +42,18 @@ linesOf text = linesIn (split 10 text)
 
 -- which line is to come
 pub data Kind : Type 0 where
-  Segment : Kind
-  Train : Kind
+  segmentKind : Kind
+  trainKind : Kind
 
 -- "Then each segment's line, its train lines after it": the kinds of line to come, from the segments' entry counts
 unfoldable pub trains : ℕ → List Kind → List Kind
 trains zero ks = ks
-trains (suc n) ks = Train ∷ trains n ks
+trains (suc n) ks = trainKind ∷ trains n ks
 
 unfoldable pub kindsOf : List ℕ → List Kind
 unfolding trains
 kindsOf [] = []
-kindsOf (c ∷ cs) = Segment ∷ trains c (kindsOf cs)
+kindsOf (c ∷ cs) = segmentKind ∷ trains c (kindsOf cs)
 
 -- what a line adds to a study. "Within a line 12 precedes all else": all its numbers are read before the addition judges any
 abbrev pub refusedAddition : Study → Refusal → Added
@@ -70,8 +70,8 @@ trainAdds l st (T.Fields t) = addTrain l st t
 -- "bytes at the end without a line feed are a line of wrong form", whatever they are
 unfoldable pub addLine : Limits → Kind → Study → Line → Added
 addLine l kind st unended = refusedAddition st Form
-addLine l Segment st (ended line) = segmentAdds l st (segmentOf line)
-addLine l Train st (ended line) = trainAdds l st (trainOf line)
+addLine l segmentKind st (ended line) = segmentAdds l st (segmentOf line)
+addLine l trainKind st (ended line) = trainAdds l st (trainOf line)
 
 -- the study of all the lines' additions
 abbrev pub acceptedWith : Study → Reading

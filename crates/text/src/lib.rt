@@ -1,27 +1,23 @@
-// Reading a study text (document 01, "The text"): one number a word, one line a segment or a train entry, the contents first.
-mod contents;
-mod lines;
-pub mod numbers;
-
+// Reading a whole study text (document 01, "The text"): the contents first, then one line a segment or a train entry.
 ghost use mathlib.Core.Path.{_≡_};
 ghost use Prim.Native.Nat.{_+_, _≤_};
 ghost use lib.ListN.{length, drop};
 ghost use Rattle.study.specs.Add.{ours};
 ghost use Rattle.study.specs.Plan.{heldBy, emptyStudy};
-ghost use Rattle.text.specs.Bytes.{until};
 ghost use Rattle.text.specs.Text.{acceptedWith, refusedAt, readLines, kindsOf, linesOf, readText};
 ghost use Rattle.text.specs.Answer.{TextAnswered};
 ghost use Rattle.text.specs.Private.{opened, SegmentAt, TrainAt, faultOf};
-use contents::Contents;
-use contents::contents_of;
 use figures::Check;
 use figures::Refusal;
 use figures::Segment;
 use figures::Train;
-use lines::SegmentLine;
-use lines::TrainLine;
-use lines::segment_of;
-use lines::train_of;
+use lines::contents::Contents;
+use lines::contents::contents_of;
+use lines::fields::SegmentLine;
+use lines::fields::TrainLine;
+use lines::fields::segment_of;
+use lines::fields::train_of;
+use lines::line_at;
 use study::Entry;
 use study::MOST_ENTRIES;
 use study::MOST_SEGMENTS;
@@ -73,47 +69,6 @@ enum SegmentStep {
 enum TrainStep {
     Taken(Train, usize),
     Refused(Refusal),
-}
-
-// The position of the first `sep` of `s` from `at` on, or the length where there is none. Four bytes a turn: the loop's own test is paid once for four.
-fn find(s: &[u8], at: usize, sep: u8) -> usize
-    requires { ⌜ at ≤ length (now s) ⌝ }
-    ensures { λ r. ⌜ r ≡ at + length (until sep (drop at (now (s .entry)))) ⌝ }
-{
-    let mut i = at;
-    while i + 3 < s.len() {
-        if s[i] == sep {
-            return i;
-        }
-        if s[i + 1] == sep {
-            return i + 1;
-        }
-        if s[i + 2] == sep {
-            return i + 2;
-        }
-        if s[i + 3] == sep {
-            return i + 3;
-        }
-        i += 4;
-    }
-    while i < s.len() {
-        if s[i] == sep {
-            return i;
-        }
-        i += 1;
-    }
-    i
-}
-
-// The line that starts at a position, without its line feed: a part of the text itself.
-pub fn line_at(text: &[u8], at: usize) -> &[u8]
-    ensures { λ r. ⌜ now r ≡ until 10 (drop at (now (text .entry))) ⌝ }
-{
-    if text.len() < at {
-        return &text[0..0];
-    }
-    let end = find(text, at, b'\n');
-    &text[at..end]
 }
 
 // Why no line could be read at a position: there is none, or no line feed ends it.
@@ -254,7 +209,7 @@ fn read_lists(text: &[u8]) -> Lists
         return refused(Refusal::Form, 1);
     }
     let mut counts = [0usize; MOST_SEGMENTS];
-    match contents_of(line, MOST_SEGMENTS, MOST_ENTRIES, &mut counts) {
+    match contents_of(line, MOST_ENTRIES, &mut counts) {
         Contents::Refused(refusal) => refused(refusal, 1),
         Contents::Counts(count) => read_lines(text, end + 1, &counts[..count]),
     }

@@ -35,7 +35,7 @@ returns-3 c =
 
 -- the counts have their places
 room : tie.Need-array-share-prefix-counts
-room c = body-room ours _ _ (contents c .contents-of .ensures) (c .before .count .given .1)
+room c = body-room ours (search needs) (contents c .contents-of .ensures) (c .before .count .given .1)
 
 read-lines-requires : tie.Need-read-lines-requires
 read-lines-requires c κs =
@@ -47,7 +47,7 @@ returns-4 c =
     let d = refusing (c .before) in
     let k = first-line d in
     c .refused4 .ensures
-    ∙ body-refused ours _ _ (d .contents-of .ensures) _ (c .before .before .refusal .given .1)
+    ∙ body-refused ours (search needs) (d .contents-of .ensures) _ (c .before .before .refusal .given .1)
     ∙ text-body ours (start-of k .args .text .now) (omega arith) (k .line-at .ensures) (search needs) (search needs)
 
 returns-5 : tie.Need-returns-5
@@ -55,7 +55,7 @@ returns-5 c =
     let n = c .before .before in
     let k = first-line (contents n) in
     c .read-lines .ensures
-    ∙ body-read ours _ _ (contents n .contents-of .ensures) (n .before .count .given .1) _
+    ∙ body-read ours (search needs) (contents n .contents-of .ensures) (n .before .count .given .1) _
     ∙ text-body ours (start-of k .args .text .now) (omega arith) (k .line-at .ensures) (search needs) (search needs)
 
 pub read-lists-spec : {M : Type 1} → statement M
@@ -66,7 +66,7 @@ read-lists-spec =
     (λ c κs. tt) returns-2
     (λ c κs. tt)
     (λ c κs. tt) returns-3
-    (λ c. search needs) (λ c κs. search needs)
+    (λ c. search needs) (λ c κs. tt)
     (λ c. search needs) (λ c κs. tt) (λ c. search needs)
     (λ c. search needs)
     room

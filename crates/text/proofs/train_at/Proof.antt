@@ -3,7 +3,7 @@
 use mathlib.Core.Path.{refl, sym, _∙_}
 use native.Mathlib.Omega.{arith}
 use Rattle.study.specs.Add.{ours}
-use Rattle.text.specs.Lines.{trainOf}
+use Rattle.lines.specs.Lines.{trainOf}
 use Rattle.text.specs.Private.{trainLineAnswer}
 use Rattle.text.proofs.Places.{Standing, unended-refused, fields-refused, fields-found}
 use borrow.Author.Needs.{needs}
