@@ -20,7 +20,7 @@ import citations
 
 # Functions that may be longer, with the reason.
 LONG = {
-    "text segment_of": "document 01 asks for a `let .. else` for each of the 14 fields",
+    "lines segment_of": "document 01 asks for a `let .. else` for each of the 14 fields",
     "words put_words": "an arm for each refusal, whose words are one long line",
 }
 # Written by tools/tables.py: a table's function has an arm for each entry.
