@@ -19,7 +19,7 @@ use Rattle.figures.specs.declared.Refusal.{Refusal}
 use Rattle.figures.specs.declared.Refusal.the-variants as R
 use Rattle.study.specs.Add.{Limits}
 use Rattle.lines.specs.Numbers.{front, numbersOf, numberAt}
-use Rattle.lines.specs.Contents.{refused, counts, entryCount, countsIn, sumOf, between, inAll, contentsIn, contentsOf, limits, ContentsRead}
+use Rattle.lines.specs.Contents.{refused, counts, entryCount, countsIn, sumOfCounts, between, inAll, contentsIn, contentsOf, limits, ContentsRead}
 use Rattle.lines.specs.Private.{countsRead, Held, Summed, Counted}
 use Rattle.lines.specs.declared.numbers.Number.the-variants as N
 use Rattle.lines.specs.declared.contents.Sum.{Sum}
@@ -48,8 +48,8 @@ module _ {v : ℤ} (f : SFits w32 v) (e : ltZ (back v) (pos 0) ≡ false) where
 
 -- ---- the entry counts, one after another
 
-sum-append : (cs ds : List ℕ) → sumOf (cs ++ ds) ≡ sumOf cs + sumOf ds
-unfolding sumOf
+sum-append : (cs ds : List ℕ) → sumOfCounts (cs ++ ds) ≡ sumOfCounts cs + sumOfCounts ds
+unfolding sumOfCounts
 sum-append [] ds = omega arith
 sum-append (c ∷ cs) ds = omega (arith, sum-append cs ds)
 
@@ -79,8 +79,8 @@ unless-counted l vs e = rw e (go (between 1 (l .segments) (length vs)))
     go true = refl
     go false = refl
 
-over-sum : (l : Limits) (cs : List ℕ) (c : ℕ) (o : Option (List ℕ)) → l .entries < sumOf cs + c → inAll l (onward cs (entryCount (l .entries) (pos c) o)) ≡ refused R.Contents
-unfolding front sumOf
+over-sum : (l : Limits) (cs : List ℕ) (c : ℕ) (o : Option (List ℕ)) → l .entries < sumOfCounts cs + c → inAll l (onward cs (entryCount (l .entries) (pos c) o)) ≡ refused R.Contents
+unfolding front sumOfCounts
 over-sum l cs c o h = go (leb c (l .entries)) o
   where
     go : (t : Bool) (o : Option (List ℕ)) → inAll l (onward cs (cond t (front c o) none)) ≡ refused R.Contents
@@ -88,7 +88,7 @@ over-sum l cs c o h = go (leb c (l .entries)) o
     go true none = refl
     go true (some ds) =
         let e = sum-append cs (c ∷ ds) in
-        rw (le-leb 1 (sumOf (cs ++ (c ∷ ds))) (omega arith), lt-leb (sumOf (cs ++ (c ∷ ds))) (l .entries) (omega arith))
+        rw (le-leb 1 (sumOfCounts (cs ++ (c ∷ ds))) (omega arith), lt-leb (sumOfCounts (cs ++ (c ∷ ds))) (l .entries) (omega arith))
 
 -- one more after n counts
 module _ {l : Limits} {n : ℕ} {v : ℤ} (before : List ℕ) {from : Sum} where
@@ -124,7 +124,7 @@ module _ {l : Limits} {n : ℕ} {v : ℤ} (before : List ℕ) {from : Sum} where
           (rw (counts-onward (l .entries) vs (v ∷ us) _ (t .are), p) (over-sum l (take (length vs) before) c (countsIn (l .entries) us) (omega (arith, t .sum-is)))))
 
       pub held-more : n < l .segments → l .segments ≤ length before → sum + c ≤ l .entries → Counted l n v before from (set before n c) (U.Within (sum + c))
-      unfolding countsIn sumOf front
+      unfolding countsIn sumOfCounts front
       held-more h room w = record { size = length-set before n c; next = λ vs e t. more vs e (rw q at t) }
         where
           more : (vs : List ℤ) → length vs ≡ n → Held l vs before sum → Held l (vs ++ (v ∷ [])) (set before n c) (sum + c)
@@ -169,7 +169,7 @@ pub record Reached (l : Limits) (line : List ℕ) (m : ℕ) (list : List ℕ) (s
 
 pub reached-first : (l : Limits) (line : List ℕ) {v : ℤ} {at : ℕ} (list : List ℕ) → l .segments ≤ length list → numberAt line 0 ≡ N.Value v at → mag v < 2 ^ 31 → ltZ (back v) (pos 0) ≡ false
     → Reached l line (natAbs (back v)) list (U.Within 0) at 0
-unfolding countsIn sumOf
+unfolding countsIn sumOfCounts
 reached-first l line {v} {at} list room e f p =
     let o = numbersFrom line at in
     record {
@@ -224,14 +224,14 @@ module _ {l : Limits} {line : List ℕ} {m : ℕ} {list : List ℕ} {sum : Sum} 
         ended-none z = counted ∙ unless-counted l (r .vs) (rw (held .are, ← held .sum-is, z))
 
         pub ended-good : (s ≡ 0 → ⊥) → (n ≤ length list) × (contentsOf l line ≡ counts (take n list))
-        unfolding sumOf
+        unfolding sumOfCounts
         ended-good z =
             let b : 1 ≤ length (r .vs) = positive (length (r .vs)) (held .sum-is) in (
               omega (arith, r .count, r .room, held .few),
               counted ∙ rw (le-leb 1 (length (r .vs)) b, le-leb (length (r .vs)) (l .segments) (held .few), held .are, ← held .sum-is, le-leb 1 s (omega (arith, z)), le-leb s (l .entries) (held .within), r .count),
             )
           where
-            positive : (k : ℕ) → s ≡ sumOf (take k list) → 1 ≤ k
+            positive : (k : ℕ) → s ≡ sumOfCounts (take k list) → 1 ≤ k
             positive zero e = absurd (z e)
             positive (suc k) e = omega arith
 

@@ -34,9 +34,9 @@ unfoldable pub countsIn : ℕ → List ℤ → Option (List ℕ)
 countsIn most [] = some []
 countsIn most (v ∷ vs) = entryCount most v (countsIn most vs)
 
-unfoldable pub sumOf : List ℕ → ℕ
-sumOf [] = 0
-sumOf (c ∷ cs) = c + sumOf cs
+unfoldable pub sumOfCounts : List ℕ → ℕ
+sumOfCounts [] = 0
+sumOfCounts (c ∷ cs) = c + sumOfCounts cs
 
 -- low to high
 abbrev pub between : ℕ → ℕ → ℕ → Bool
@@ -45,7 +45,7 @@ between low high n = leb low n && leb n high
 -- in all 1 to as many as a study may hold, else out of range
 abbrev pub inAll : Limits → Option (List ℕ) → Read
 inAll l none = refused Contents
-inAll l (some cs) = cond (between 1 (l .entries) (sumOf cs)) (counts cs) (refused Contents)
+inAll l (some cs) = cond (between 1 (l .entries) (sumOfCounts cs)) (counts cs) (refused Contents)
 
 -- every number's form and their count come before any range. A line has at least one word, so the second case does not arise
 abbrev pub contentsIn : Limits → Option (List ℤ) → Read

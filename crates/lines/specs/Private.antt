@@ -9,7 +9,7 @@ use lib.ListN.{length, take}
 use lib.IntN.{ℤ}
 use Rattle.figures.specs.declared.Refusal.the-variants.{Contents}
 use Rattle.study.specs.Add.{Limits}
-use Rattle.lines.specs.Contents.{Read, refused, countsIn, sumOf, between, inAll}
+use Rattle.lines.specs.Contents.{Read, refused, countsIn, sumOfCounts, between, inAll}
 use Rattle.lines.specs.declared.contents.Sum.{Sum}
 use Rattle.lines.specs.declared.contents.Sum.the-variants as U
 
@@ -21,7 +21,7 @@ countsRead l vs = cond (between 1 (l .segments) (length vs)) (inAll l (countsIn 
 pub record Held (l : Limits) (vs : List ℤ) (list : List ℕ) (sum : ℕ) : Type 0 where
   pub few : length vs ≤ l .segments
   pub are : countsIn (l .entries) vs ≡ some (take (length vs) list)
-  pub sum-is : sum ≡ sumOf (take (length vs) list)
+  pub sum-is : sum ≡ sumOfCounts (take (length vs) list)
   pub within : sum ≤ l .entries
 
 -- they are held, or they are out of range whatever follows them

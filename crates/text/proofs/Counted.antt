@@ -21,7 +21,7 @@ use Rattle.study.specs.Run.{run, accepted, LimitsFit}
 use Rattle.study.proofs.Runs.{run-sized, rows-length, run-accepted}
 use Rattle.lines.specs.Numbers.{numbersOf}
 use Rattle.lines.specs.Lines.{segmentOf, trainOf}
-use Rattle.lines.specs.Contents.{Read, refused, counts, isCount, countsIn, sumOf, between, inAll, contentsIn, contentsOf}
+use Rattle.lines.specs.Contents.{Read, refused, counts, isCount, countsIn, sumOfCounts, between, inAll, contentsIn, contentsOf}
 use Rattle.text.specs.Text.{Line, ended, unended, linesOf, Kind, segmentKind, trainKind, kindsOf, segmentAdds, trainAdds, addLine, refusedAt, readLines, readBody, readFrom, readText}
 use Rattle.text.specs.Additions.{additionsOf}
 use Rattle.text.specs.declared.Reading.{Reading}
@@ -69,15 +69,15 @@ lines-total l st k (p ∷ ps) (x ∷ xs) e =
 
 abbrev Some : Read → Type 0
 Some (refused r) = Unit {0}
-Some (counts cs) = 0 < sumOf cs
+Some (counts cs) = 0 < sumOfCounts cs
 
 module _ (l : Limits) where
   in-all-some : (o : Option (List ℕ)) → Some (inAll l o)
   in-all-some none = tt
-  in-all-some (some cs) = go (leb 1 (sumOf cs)) (leb (sumOf cs) (l .entries)) refl
+  in-all-some (some cs) = go (leb 1 (sumOfCounts cs)) (leb (sumOfCounts cs) (l .entries)) refl
     where
-      go : (a b : Bool) → leb 1 (sumOf cs) ≡ a → Some (cond (a && b) (counts cs) (refused R.Contents))
-      go true true e = leb-true 1 (sumOf cs) e
+      go : (a b : Bool) → leb 1 (sumOfCounts cs) ≡ a → Some (cond (a && b) (counts cs) (refused R.Contents))
+      go true true e = leb-true 1 (sumOfCounts cs) e
       go true false e = tt
       go false b e = tt
 

@@ -27,7 +27,7 @@ use Rattle.study.specs.Plan.{emptyStudy}
 use Rattle.study.specs.Add.{Limits, segmentLimit, segmentAnswer, trainLimit, trainAnswer, withSegment, withTrain, answer, addSegment, addTrain}
 use Rattle.lines.specs.Numbers.{front, numbersOf}
 use Rattle.lines.specs.Lines.{segmentOf, trainOf}
-use Rattle.lines.specs.Contents.{Read, refused, counts, isCount, countsIn, sumOf, between, inAll, contentsIn, contentsOf}
+use Rattle.lines.specs.Contents.{Read, refused, counts, isCount, countsIn, sumOfCounts, between, inAll, contentsIn, contentsOf}
 use Rattle.text.specs.Text.{Line, ended, unended, linesOf, Kind, segmentKind, trainKind, trains, kindsOf, refusedAddition, segmentAdds, trainAdds, addLine, refusedAt, after, readLines, readBody, readFrom, readText}
 use Rattle.text.specs.declared.Reading.{Reading}
 use Rattle.lines.specs.declared.fields.SegmentLine.{SegmentLine}
@@ -162,8 +162,8 @@ unfolding kindsOf
 kinds-segments [] = refl
 kinds-segments (c ∷ cs) = ap suc (trains-segments c (kindsOf cs) ∙ kinds-segments cs)
 
-pub kinds-trains : (cs : List ℕ) → trainsIn (kindsOf cs) ≡ sumOf cs
-unfolding kindsOf sumOf
+pub kinds-trains : (cs : List ℕ) → trainsIn (kindsOf cs) ≡ sumOfCounts cs
+unfolding kindsOf sumOfCounts
 kinds-trains [] = refl
 kinds-trains (c ∷ cs) = trains-trains c (kindsOf cs) ∙ ap (λ (n : ℕ). c + n) (kinds-trains cs)
 
@@ -190,7 +190,7 @@ counts-long most (pos c ∷ vs) = go (leb c most) (front-long (length vs) c (cou
 -- what the contents give
 abbrev Given : Limits → Read → Type 0
 Given l (refused r) = numberOf r ≤ 13
-Given l (counts cs) = (length cs ≤ l .segments) × (sumOf cs ≤ l .entries)
+Given l (counts cs) = (length cs ≤ l .segments) × (sumOfCounts cs ≤ l .entries)
 
 within : (low high n : ℕ) → between low high n ≡ true → n ≤ high
 within low high n e = leb-true n high (right (leb low n) (leb n high) e)
@@ -203,10 +203,10 @@ module _ (l : Limits) where
   in-all-given : (n : ℕ) → n ≤ l .segments → (o : Option (List ℕ)) → Long n o → Given l (inAll l o)
   unfolding numberOf
   in-all-given n h none q = omega arith
-  in-all-given n h (some cs) q = go (between 1 (l .entries) (sumOf cs)) refl
+  in-all-given n h (some cs) q = go (between 1 (l .entries) (sumOfCounts cs)) refl
     where
-      go : (t : Bool) → between 1 (l .entries) (sumOf cs) ≡ t → Given l (cond t (counts cs) (refused R.Contents))
-      go true e = (omega arith, within 1 (l .entries) (sumOf cs) e)
+      go : (t : Bool) → between 1 (l .entries) (sumOfCounts cs) ≡ t → Given l (cond t (counts cs) (refused R.Contents))
+      go true e = (omega arith, within 1 (l .entries) (sumOfCounts cs) e)
       go false e = omega arith
 
   contents-given : (o : Option (List ℤ)) → Given l (contentsIn l o)
