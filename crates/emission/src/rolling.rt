@@ -9,7 +9,7 @@ use figures::Train;
 use figures::natural;
 
 // In tenths, in the table's order.
-const ROLLINGS: [u32; 34] = [
+const ROLLINGS: [u8; 34] = [
     148,
     148,
     167,

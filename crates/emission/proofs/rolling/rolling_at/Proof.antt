@@ -16,4 +16,4 @@ unfolding rollings
 returns c = toZ-ofZ (rolling-fits (c .args .row) (c .pre .0) (c .pre .1))
 
 pub rolling-at-spec : {M : Type 1} → statement M
-rolling-at-spec = tie.close (tie.spec (λ c. search needs) (λ c. search needs) (λ c. search needs) cast-result returns)
+rolling-at-spec = tie.close (tie.spec (λ c. search needs) (λ c. search needs) cast-result returns)
