@@ -7,7 +7,8 @@ use native.Mathlib.Nat.{le-trans, lt-of-lt-of-le, lt-of-le-of-lt, lt-irrefl, mod
 use native.Mathlib.Numerals.{add-one}
 use native.Mathlib.Omega.{arith}
 use lib.Dec.{T, leb, ltb, eqb, leb→le, le→leb, ltb→lt, eqb→eq, lit<}
-use lib.IntN.{ℤ}
+use lib.IntN.{ℤ, negsuc}
+use lib.Signed.{_≤ℤ_, _<ℤ_}
 use lib.ListN.{getD}
 use Rattle.decibel.specs.Greatest.{greatest}
 use Rattle.decibel.specs.Private.{Sought, Between}
@@ -135,10 +136,10 @@ module _ (w : ℕ) (few : w ≤ 96 * unit) where
 pub passed-few : {w k : ℕ} → Between markBeginList w k → k < 199
 passed-few b = omega (arith, b .inside, begin-rule .size)
 
--- and that of a cell
-module _ (c : ℤ) (top h : ℕ) (e : h ≡ heightAt c) where
-  pub cell-silent : h ≡ 0 → Bounded unit (weightAt top c) 0
-  cell-silent z = record { is = sym (weight-silent c top (sym e ∙ z)); most = zero-le }
+-- and that of a cell beside the loudest level
+module _ (c loud : ℤ) where
+  pub cell-silent : c <ℤ negsuc 1999 → Bounded unit (weightAt (heightAt loud) c) 0
+  cell-silent h = record { is = sym (weight-silent c (heightAt loud) h); most = zero-le }
 
-  pub cell-heard : (h ≡ 0 → ⊥) → {r : ℕ} → Bounded unit (weightOf (top - h)) r → Bounded unit (weightAt top c) r
-  cell-heard f b = record { is = b .is ∙ ap (λ (x : ℕ). weightOf (top - x)) e ∙ sym (weight-heard c top (λ z. f (e ∙ z))); most = b .most }
+  pub cell-heard : negsuc 1999 ≤ℤ c → {j r : ℕ} → j ≡ heightAt loud - heightAt c → Bounded unit (weightOf j) r → Bounded unit (weightAt (heightAt loud) c) r
+  cell-heard h e b = record { is = b .is ∙ ap weightOf e ∙ sym (weight-heard c (heightAt loud) h); most = b .most }
