@@ -1,23 +1,25 @@
--- The logarithms of small numbers: one computed test over the list of the crate `small_logs`, and what its function hands over.
+-- The logarithms of small numbers and of the squares of speeds: one computed test over each list of the crate `small_logs`, and what its function hands over.
 -- Assumes nothing.
 use mathlib.Core.Path.{_≡_, refl, sym, _∙_, ap, subst}
 use mathlib.Core.Bool.{Bool, not}
-use Prim.Native.Nat.{ℕ, suc, _+_, _*_, _≤_, _<_}
-use native.Mathlib.Nat.{lt-of-lt-of-le}
+use Prim.Native.Nat.{ℕ, suc, _+_, _-_, _*_, _≤_, _<_, zero-le}
+use native.Mathlib.Nat.{lt-of-lt-of-le, lt-of-not-le, le-of-lt, mul-le-mul}
+use native.Mathlib.Decide.{decLe}
 use native.Mathlib.Omega.{arith}
 use lib.Dec.{T, ltb, ltb→lt, lt→ltb, lit≤}
 use lib.ListN.{getD}
-use lib.IntN.{pos, subℕ}
-use mir.Syntax.{w32}
-use mir.Val.{toZ}
+use lib.IntN.{ℤ, pos, subℕ}
+use mir.Syntax.{w32, w64}
+use mir.Val.{Fits, SFits, toZ, ofZ}
 use mir.Facts.{toZ-pos}
-use Rattle.small_logs.specs.Lists.{smallLogList}
+use Rattle.small_logs.specs.Lists.{smallLogList, twentyLogLowerList, twentyLogUpperList}
 use Rattle.decibel.specs.Greatest.{clamp}
 use Rattle.decibel.specs.Round.{nearest}
 use Rattle.decibel.specs.Lookup.{tenLog, fenceAt, lowest, highest, tenthsAt, Tenth}
 use Rattle.decibel.proofs.Tests.{reaches, both, Values}
 use Rattle.decibel.proofs.Ints.{sub-is, from-parts}
-use Rattle.decibel.proofs.Greatest.{clamp-within}
+use Rattle.decibel.proofs.Words.{back}
+use Rattle.decibel.proofs.Greatest.{clamp-over, clamp-same, clamp-within}
 use Rattle.decibel.proofs.Tenths.{reading}
 use Rattle.decibel.proofs.Table.{both-left, both-right, values-tested}
 
@@ -29,9 +31,9 @@ reachesTie n x = reaches 2 200 n 1 (2 * x + 1)
 abbrev nearTenth : ℕ → ℕ → Bool
 nearTenth n x = both (reachesTie n x) (not (reachesTie n (suc x)))
 
--- entry i is the tenth of i, of 0 that of 1, and small
-abbrev smallTest : ℕ → ℕ → Bool
-smallTest i x = both (ltb x 1000) (nearTenth (clamp 1 3200000000 i) x)
+-- entry i is the tenth of f i, of 0 that of 1, and small
+abbrev logTest : (ℕ → ℕ) → ℕ → ℕ → Bool
+logTest f i x = both (ltb x 1000) (nearTenth (clamp 1 3200000000 (f i)) x)
 
 near-decides : (n x : ℕ) → T (ltb 0 n) → T (nearTenth n x) → nearest (fenceAt tenLog n) ≡ pos x
 unfolding fenceAt
@@ -41,21 +43,75 @@ near-decides n x p t =
     (both-right (reachesTie n x) (not (reachesTie n (suc x))) t)
     ∙ from-parts (subℕ (suc x) 1) (pos x) (omega (arith, sub-is (suc x) 1))
 
-small-right : (i x : ℕ) → T (smallTest i x) → (pos x ≡ tenthsAt tenLog i) × (x < 1000)
+-- x is the tenth of 10 · log n, and small
+abbrev TenthOf : ℕ → ℕ → Type 0
+TenthOf n x = (pos x ≡ tenthsAt tenLog n) × (x < 1000)
+
+log-right : (f : ℕ → ℕ) (i x : ℕ) → T (logTest f i x) → TenthOf (f i) x
 unfolding tenthsAt lowest highest
-small-right i x t =
-    let n = clamp 1 3200000000 i in
-    let p : 0 < n = omega (arith, clamp-within 1 3200000000 i (lit≤ tt)) in
+log-right f i x t =
+    let n = clamp 1 3200000000 (f i) in
+    let p : 0 < n = omega (arith, clamp-within 1 3200000000 (f i) (lit≤ tt)) in
     (sym (near-decides n x (lt→ltb 0 n p) (both-right (ltb x 1000) (nearTenth n x) t)), ltb→lt x 1000 (both-left (ltb x 1000) (nearTenth n x) t))
 
-small-rule : Values (λ i x. (pos x ≡ tenthsAt tenLog i) × (x < 1000)) 200 smallLogList
+-- the squares of the upper speeds, counted from 151
+abbrev upper : ℕ → ℕ
+upper i = (i + 151) * (i + 151)
+
+small-rule : Values TenthOf 200 smallLogList
 unfolding smallLogList reaches clamp
-small-rule = values-tested smallTest small-right refl tt
+small-rule = values-tested (logTest (λ i. i)) (log-right (λ i. i)) refl tt
 
--- what `ten_log` hands over of a small number
-module _ (n x : ℕ) (h : n < 200) (w : x ≡ getD smallLogList n 0) where
-  pub small-fits : x < 1000
-  small-fits = subst (λ (y : ℕ). y < 1000) (sym w) (small-rule .rule n h .1)
+lower-rule : Values (λ i x. TenthOf (i * i) x) 151 twentyLogLowerList
+unfolding twentyLogLowerList reaches clamp
+lower-rule = values-tested (logTest (λ i. i * i)) (log-right (λ i. i * i)) refl tt
 
-  pub small-log-is : Tenth (tenthsAt tenLog n) (toZ w32 x)
-  small-log-is = rw (toZ-pos w32 {n = x} (lt-of-lt-of-le small-fits (lit≤ tt))) (record { is = ap pos w ∙ small-rule .rule n h .0; small = small-fits })
+upper-rule : Values (λ i x. TenthOf (upper i) x) 150 twentyLogUpperList
+unfolding twentyLogUpperList reaches clamp
+upper-rule = values-tested (logTest upper) (log-right upper) refl tt
+
+-- what is handed over of an entry: it fits, and is the tenth
+pub record Handed (n x : ℕ) : Type 0 where
+  pub fits : SFits w32 (pos x)
+  pub is : Tenth (tenthsAt tenLog n) (toZ w32 x)
+
+handed : (n x y : ℕ) → x ≡ y → TenthOf n y → Handed n x
+handed n x y w t =
+    let small : x < 1000 = omega (arith, t .1) in
+    record {
+      fits = record { sfits = lt-of-lt-of-le small (lit≤ tt) };
+      is = rw (toZ-pos w32 {n = x} (lt-of-lt-of-le small (lit≤ tt))) (record { is = ap pos w ∙ t .0; small = small });
+    }
+
+pub small-handed : (n x : ℕ) → n < 200 → x ≡ getD smallLogList n 0 → Handed n x
+small-handed n x h w = handed n x (getD smallLogList n 0) w (small-rule .rule n h)
+
+pub lower-handed : (v x : ℕ) → v < 151 → x ≡ getD twentyLogLowerList v 0 → Handed (v * v) x
+lower-handed v x h w = handed (v * v) x (getD twentyLogLowerList v 0) w (lower-rule .rule v h)
+
+pub upper-handed : (v x : ℕ) → 151 ≤ v → v < 301 → x ≡ getD twentyLogUpperList (v - 151) 0 → Handed (v * v) x
+upper-handed v x l h w =
+    let e : v - 151 + 151 ≡ v = omega arith in
+    handed (v * v) x (getD twentyLogUpperList (v - 151) 0) w (subst (λ (k : ℕ). TenthOf (k * k) (getD twentyLogUpperList (v - 151) 0)) e (upper-rule .rule (v - 151) (omega arith)))
+
+-- ---- a number clamped to 60,000, whose square is beyond the range
+
+square-over : (n : ℕ) → 60000 ≤ n → 3200000000 ≡ clamp 1 3200000000 (n * n)
+square-over n h = let m : 3600000000 ≤ n * n = mul-le-mul h h in clamp-over 1 3200000000 (n * n) (omega arith) (omega arith)
+
+module _ (v x : ℕ) (e : x ≡ clamp 0 60000 v) where
+  pub square-fits : Fits w64 (x * x)
+  square-fits = let h : x ≤ 60000 = omega (arith, e, clamp-within 0 60000 v zero-le .1) in omega (arith, mul-le-mul h h)
+
+  square-same : tenthsAt tenLog (x * x) ≡ tenthsAt tenLog (v * v)
+  unfolding tenthsAt lowest highest
+  square-same = go (decLe v 60000)
+    where
+      go : Dec (v ≤ 60000) → tenthsAt tenLog (x * x) ≡ tenthsAt tenLog (v * v)
+      go (yes h) = ap (λ (k : ℕ). tenthsAt tenLog (k * k)) (e ∙ sym (clamp-same 0 60000 v zero-le h))
+      go (no h) =
+          let l : 60000 < v = lt-of-not-le h in
+          ap (λ (k : ℕ). nearest (fenceAt tenLog k)) (sym (square-over x (omega (arith, e, clamp-over 0 60000 v zero-le l))) ∙ square-over v (le-of-lt l))
+
+  pub square-handed : (r : ℤ) → Tenth (tenthsAt tenLog (x * x)) r → Tenth (tenthsAt tenLog (v * v)) (toZ w32 (ofZ w32 r))
+  square-handed r t = rw (back r (lt-of-lt-of-le (t .small) (lit≤ tt))) (subst (λ (z : ℤ). Tenth z r) square-same t)

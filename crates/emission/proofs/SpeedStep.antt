@@ -6,8 +6,8 @@ use native.Mathlib.Nat.{le-trans, mul-le-mul}
 use native.Mathlib.Omega.{arith}
 use lib.Dec.{lit<, lit≤}
 use lib.IntN.{ℤ, pos, _+ℤ_}
-use mir.Syntax.{w32, w64}
-use mir.Val.{Fits, SFits}
+use mir.Syntax.{w32}
+use mir.Val.{SFits}
 use Rattle.decibel.specs.Ints.{up}
 use Rattle.decibel.specs.Log.{AtLeast, fence}
 use Rattle.decibel.specs.Lookup.{tenLog, fenceAt, lowest, highest, tenthsAt, Tenth}
@@ -28,23 +28,19 @@ speed-square : (v : ℕ) → 0 < v → fence 31200000 20000000 v 1 ≡ micro (po
 unfolding micro
 speed-square v h = fence-square 31200000 10000000 v h ∙ sym (fence-add 31200000 0 10000000 (v * v) 1)
 
-module _ (t : Train) (g : TrainRanged t) {n : ℕ} (e : n ≡ up (t .speed)) where
-  pub square-fits : Fits w64 (n * n)
-  square-fits = let h : n ≤ mostSpeed = omega (arith, g .speed .most) in omega (arith, mul-le-mul h h)
+module _ (t : Train) (g : TrainRanged t) {n : ℕ} (e : n ≡ up (t .speed)) {x : ℤ} (a : Tenth (tenthsAt tenLog (n * n)) x) where
+  pub speed-fits : SFits w32 (read (pos 312) +ℤ read x)
+  speed-fits = summand {m = 313} {x = pos 312} (natural-below (lit< tt)) (tenth-below a) (lit≤ tt)
 
-  module _ {x : ℤ} (a : Tenth (tenthsAt tenLog (n * n)) x) where
-    pub speed-fits : SFits w32 (read (pos 312) +ℤ read x)
-    speed-fits = summand {m = 313} {x = pos 312} (natural-below (lit< tt)) (tenth-below a) (lit≤ tt)
-
-    pub speed-is : Exactly (nearest (speedFence t)) (read (read (pos 312) +ℤ read x))
-    unfolding speedFence countedSpeed fenceAt lowest highest
-    speed-is =
-        let low : leastSpeed ≤ n = omega (arith, g .speed .least) in
-        let high : n ≤ mostSpeed = omega (arith, g .speed .most) in
-        let log = tenths-of tenLog (n * n) (le-trans (lit≤ tt) (mul-le-mul low low)) (le-trans (mul-le-mul high high) (lit≤ tt)) a in
-        let s = summed {m = 313} {x = pos 312} (natural-below (lit< tt)) (tenth-below a) (lit≤ tt) in
-        let is = sym (nearest-plus (pos 312) (fence 0 10000000 (n * n) 1)) ∙ ap nearest (sym (speed-square n (omega arith))) ∙ ap (λ (v : ℕ). nearest (fence 31200000 20000000 v 1)) e in
-        record { is = s .is ∙ ap (λ (y : ℤ). pos 312 +ℤ y) (log .is) ∙ is; small = below-more (lit≤ tt) (s .small) }
+  pub speed-is : Exactly (nearest (speedFence t)) (read (read (pos 312) +ℤ read x))
+  unfolding speedFence countedSpeed fenceAt lowest highest
+  speed-is =
+      let low : leastSpeed ≤ n = omega (arith, g .speed .least) in
+      let high : n ≤ mostSpeed = omega (arith, g .speed .most) in
+      let log = tenths-of tenLog (n * n) (le-trans (lit≤ tt) (mul-le-mul low low)) (le-trans (mul-le-mul high high) (lit≤ tt)) a in
+      let s = summed {m = 313} {x = pos 312} (natural-below (lit< tt)) (tenth-below a) (lit≤ tt) in
+      let is = sym (nearest-plus (pos 312) (fence 0 10000000 (n * n) 1)) ∙ ap nearest (sym (speed-square n (omega arith))) ∙ ap (λ (v : ℕ). nearest (fence 31200000 20000000 v 1)) e in
+      record { is = s .is ∙ ap (λ (y : ℤ). pos 312 +ℤ y) (log .is) ∙ is; small = below-more (lit≤ tt) (s .small) }
 
 module _ (t : Train) (g : TrainRanged t) where
   pub speed-lies : Signed 0 91200000 (speedFence t)

@@ -9,6 +9,5 @@ pub(crate) fn speed_step(train: Train) -> i32
     requires { ⌜ TrainRanged train ⌝ }
     ensures { λ r. ⌜ Exactly (nearest (speedFence train)) r ⌝ }
 {
-    let speed = natural(train.speed);
-    312 + decibel::ten_log(speed * speed)
+    312 + decibel::twenty_log(natural(train.speed))
 }
