@@ -76,11 +76,12 @@ def ten_log(n):
 
 
 def small_logs():
-    """A function's proof grows with the square of its arms, so the accepted speeds are cut in two."""
+    """A function's proof grows with the square of its arms, so the accepted speeds are cut in three."""
     return [
         ("small_log", "10 log n in tenths for n below 200, of 0 that of 1", [ten_log(n) for n in range(200)]),
-        ("twenty_log_lower", "20 log v in tenths for v below 151, of 0 that of 1", [ten_log(v * v) for v in range(151)]),
-        ("twenty_log_upper", "20 log v in tenths for v from 151 to 300, counted from 151", [ten_log(v * v) for v in range(151, 301)]),
+        ("twenty_log_lower", "20 log v in tenths for v below 101, of 0 that of 1", [ten_log(v * v) for v in range(101)]),
+        ("twenty_log_middle", "20 log v in tenths for v from 101 to 200, counted from 101", [ten_log(v * v) for v in range(101, 201)]),
+        ("twenty_log_upper", "20 log v in tenths for v from 201 to 300, counted from 201", [ten_log(v * v) for v in range(201, 301)]),
     ]
 
 

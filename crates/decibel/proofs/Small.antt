@@ -2,6 +2,7 @@
 -- Assumes nothing.
 use mathlib.Core.Path.{_≡_, refl, sym, _∙_, ap, subst}
 use mathlib.Core.Bool.{Bool, not}
+use mathlib.Core.List.{List}
 use Prim.Native.Nat.{ℕ, suc, _+_, _-_, _*_, _≤_, _<_, zero-le}
 use native.Mathlib.Nat.{lt-of-lt-of-le, lt-of-not-le, le-of-lt, mul-le-mul}
 use native.Mathlib.Decide.{decLe}
@@ -12,7 +13,7 @@ use lib.IntN.{ℤ, pos, subℕ}
 use mir.Syntax.{w32, w64}
 use mir.Val.{Fits, SFits, toZ, ofZ}
 use mir.Facts.{toZ-pos}
-use Rattle.small_logs.specs.Lists.{smallLogList, twentyLogLowerList, twentyLogUpperList}
+use Rattle.small_logs.specs.Lists.{smallLogList, twentyLogLowerList, twentyLogMiddleList, twentyLogUpperList}
 use Rattle.decibel.specs.Greatest.{clamp}
 use Rattle.decibel.specs.Round.{nearest}
 use Rattle.decibel.specs.Lookup.{tenLog, fenceAt, lowest, highest, tenthsAt, Tenth}
@@ -54,21 +55,25 @@ log-right f i x t =
     let p : 0 < n = omega (arith, clamp-within 1 3200000000 (f i) (lit≤ tt)) in
     (sym (near-decides n x (lt→ltb 0 n p) (both-right (ltb x 1000) (nearTenth n x) t)), ltb→lt x 1000 (both-left (ltb x 1000) (nearTenth n x) t))
 
--- the squares of the upper speeds, counted from 151
-abbrev upper : ℕ → ℕ
-upper i = (i + 151) * (i + 151)
+-- the squares of the numbers from a on
+abbrev squareFrom : ℕ → ℕ → ℕ
+squareFrom a i = (i + a) * (i + a)
 
 small-rule : Values TenthOf 200 smallLogList
 unfolding smallLogList reaches clamp
 small-rule = values-tested (logTest (λ i. i)) (log-right (λ i. i)) refl tt
 
-lower-rule : Values (λ i x. TenthOf (i * i) x) 151 twentyLogLowerList
+lower-rule : Values (λ i x. TenthOf (i * i) x) 101 twentyLogLowerList
 unfolding twentyLogLowerList reaches clamp
 lower-rule = values-tested (logTest (λ i. i * i)) (log-right (λ i. i * i)) refl tt
 
-upper-rule : Values (λ i x. TenthOf (upper i) x) 150 twentyLogUpperList
+middle-rule : Values (λ i x. TenthOf (squareFrom 101 i) x) 100 twentyLogMiddleList
+unfolding twentyLogMiddleList reaches clamp
+middle-rule = values-tested (logTest (squareFrom 101)) (log-right (squareFrom 101)) refl tt
+
+upper-rule : Values (λ i x. TenthOf (squareFrom 201 i) x) 100 twentyLogUpperList
 unfolding twentyLogUpperList reaches clamp
-upper-rule = values-tested (logTest upper) (log-right upper) refl tt
+upper-rule = values-tested (logTest (squareFrom 201)) (log-right (squareFrom 201)) refl tt
 
 -- what is handed over of an entry: it fits, and is the tenth
 pub record Handed (n x : ℕ) : Type 0 where
@@ -86,13 +91,19 @@ handed n x y w t =
 pub small-handed : (n x : ℕ) → n < 200 → x ≡ getD smallLogList n 0 → Handed n x
 small-handed n x h w = handed n x (getD smallLogList n 0) w (small-rule .rule n h)
 
-pub lower-handed : (v x : ℕ) → v < 151 → x ≡ getD twentyLogLowerList v 0 → Handed (v * v) x
+pub lower-handed : (v x : ℕ) → v < 101 → x ≡ getD twentyLogLowerList v 0 → Handed (v * v) x
 lower-handed v x h w = handed (v * v) x (getD twentyLogLowerList v 0) w (lower-rule .rule v h)
 
-pub upper-handed : (v x : ℕ) → 151 ≤ v → v < 301 → x ≡ getD twentyLogUpperList (v - 151) 0 → Handed (v * v) x
-upper-handed v x l h w =
-    let e : v - 151 + 151 ≡ v = omega arith in
-    handed (v * v) x (getD twentyLogUpperList (v - 151) 0) w (subst (λ (k : ℕ). TenthOf (k * k) (getD twentyLogUpperList (v - 151) 0)) e (upper-rule .rule (v - 151) (omega arith)))
+from-handed : (a : ℕ) {xs : List ℕ} → Values (λ i x. TenthOf (squareFrom a i) x) 100 xs → (v x : ℕ) → a ≤ v → v < a + 100 → x ≡ getD xs (v - a) 0 → Handed (v * v) x
+from-handed a {xs} values v x l h w =
+    let e : v - a + a ≡ v = omega arith in
+    handed (v * v) x (getD xs (v - a) 0) w (subst (λ (k : ℕ). TenthOf (k * k) (getD xs (v - a) 0)) e (values .rule (v - a) (omega arith)))
+
+pub middle-handed : (v x : ℕ) → 101 ≤ v → v < 201 → x ≡ getD twentyLogMiddleList (v - 101) 0 → Handed (v * v) x
+middle-handed = from-handed 101 middle-rule
+
+pub upper-handed : (v x : ℕ) → 201 ≤ v → v < 301 → x ≡ getD twentyLogUpperList (v - 201) 0 → Handed (v * v) x
+upper-handed = from-handed 201 upper-rule
 
 -- ---- a number clamped to 60,000, whose square is beyond the range
 
