@@ -1,4 +1,4 @@
-"""What the .rt and .antt files of the crates bring in and define, and which of it nothing uses. Used by tools/audit.py.
+"""What the .rt and .antt files of the crates bring in and define, and which of it nothing uses. Used by tools/audit.py and believed.py.
 
 A name counts as used where it stands as a word outside comments and imports. A definition counts as cited where its own file uses it
 outside of it, where a file that imports it uses it, or where a page or a comment names it in backticks: a theorem is the end of its line.
@@ -78,8 +78,8 @@ def block_end(lines, start, name, indent):
     return len(lines)
 
 
-def blocks(source):
-    """The definitions of an antt file, each with the file's other lines."""
+def definitions(source):
+    """The definitions of an antt file: name, whether it is a type, its first line and the one after its last."""
     lines = source.text.splitlines()
     fields_end = 0
     for number, line in enumerate(lines):
@@ -90,7 +90,14 @@ def blocks(source):
         end = block_end(lines, number, name, match["indent"])
         if match["type"]:
             fields_end = end
-        yield name, "\n".join(lines[:number] + lines[end:])
+        yield name, bool(match["type"]), number, end
+
+
+def blocks(source):
+    """The definitions of an antt file, each with the file's other lines."""
+    lines = source.text.splitlines()
+    for name, _, start, end in definitions(source):
+        yield name, "\n".join(lines[:start] + lines[end:])
 
 
 def cited_elsewhere(name, module, all_sources):

@@ -78,4 +78,5 @@ def main():
         print(f"| {crate} | {' | '.join(f'{row[column]:,}' for column in COLUMNS)} |")
 
 
-main()
+if __name__ == "__main__":
+    main()
