@@ -9,14 +9,15 @@
 - The vehicle rows of docs/PLANNER.md are those of the header, and the program gives each its figure.
 - The refused lines of docs/PLANNER.md, put into docs/studies/entry.txt, give the refusal beside them.
 - The study that docs/PLANNER.md explains is docs/studies/planner.txt.
-- The 14 and 5 figures have the same ranges in README.md, docs/PLANNER.md, docs/RULES.md and the header.
+- Ranges and limits are those of the rules (host/ranges.py, which needs no program and can be run alone).
 """
-import pathlib
 import re
 import subprocess
 import sys
 
-ROOT = pathlib.Path(__file__).resolve().parent.parent
+import ranges
+
+ROOT = ranges.ROOT
 PLANNER = (ROOT / "docs" / "PLANNER.md").read_text()
 ENTRY = (ROOT / "docs" / "studies" / "entry.txt").read_text().splitlines()
 WORDS = "--words" in sys.argv[1:]
@@ -87,27 +88,4 @@ def study():
     yield "".join(f"    {line}\n" for line in text.splitlines()) in PLANNER, "docs/PLANNER.md does not show docs/studies/planner.txt"
 
 
-RANGE = r"((?:-?\d+|θ|the angle of view) to (?:d [−-] 100|θ|the angle of view|\d+))"
-
-
-def ranges():
-    """The ranges of the segment's and then the train's figures, those that are one: the screen and the facade have values."""
-    def told(pattern, text):
-        return [found.replace("the angle of view", "θ").replace("−", "-") for found in re.findall(pattern, text, re.M)]
-
-    readme = told(r"^\| \d+ \|[^|]*\|[^|]*\| " + RANGE, (ROOT / "README.md").read_text())
-    yield len(readme) == 17, f"README.md gives {len(readme)} ranges, not 17"
-    for name, pattern, text in [
-        ("docs/RULES.md", r"^\| 2\.\d+ \|[^|]*\|[^|]*\| " + RANGE, (ROOT / "docs" / "RULES.md").read_text()),
-        ("docs/PLANNER.md", r"^\| (?!7 )\d+ \|[^|]*\|[^|]*\| " + RANGE, PLANNER),
-        ("include/railnoise.h", r"^ \* +\d+  \S.*?  " + RANGE, (ROOT / "include" / "railnoise.h").read_text()),
-    ]:
-        yield told(pattern, text) == readme, f"{name} gives other ranges than README.md: {told(pattern, text)}"
-
-
-results = [*commands(), *rows(), *refused_lines(), *study(), *ranges()]
-for right, about in results:
-    if not right:
-        print(about, file=sys.stderr)
-print(f"pages: {len(results)} shown, {sum(not right for right, _ in results)} not so")
-sys.exit(0 if all(right for right, _ in results) else 1)
+ranges.report("pages", [*commands(), *rows(), *refused_lines(), *study(), *ranges.results()])
