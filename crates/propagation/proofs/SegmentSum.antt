@@ -3,11 +3,13 @@
 use mathlib.Core.Path.{_≡_, refl, sym, _∙_, ap, ap₂, subst}
 use mathlib.Core.Bool.{Bool, true, false, cond}
 use Prim.Native.Nat.{ℕ, _+_, _≤_}
+use native.Mathlib.Nat.{lt-of-lt-of-le}
 use native.Mathlib.Omega.{arith}
 use lib.Dec.{lit<, lit≤}
-use lib.IntN.{ℤ, pos, _+ℤ_}
-use mir.Syntax.{w32}
-use mir.Val.{SFits}
+use lib.IntN.{ℤ, pos, negsuc, _+ℤ_}
+use mir.Syntax.{w16, w32}
+use mir.Val.{SFits, toZ, ofZ}
+use mir.Facts.{toZ-ofZ}
 use Rattle.decibel.specs.Round.{micro, nearest, Near}
 use Rattle.decibel.proofs.Round.{near-nearest, near-mark, near-exact, near-add}
 use Rattle.figures.specs.declared.Segment.{Segment}
@@ -21,15 +23,17 @@ use Rattle.figures.proofs.Signs.{read, below-more, below-back, natural-below, f
 use Rattle.figures.proofs.Lies.{lies-add, lies-within, lies-from, lies-micro, near-lies}
 use Rattle.propagation.specs.declared.SegmentBreakdown.{SegmentBreakdown}
 use Rattle.propagation.specs.declared.Propagation.{Propagation}
+use Rattle.propagation.specs.declared.Judgement.{Judgement}
+use Rattle.propagation.specs.declared.ground.Path.{Path}
 use Rattle.propagation.specs.Distance.{distanceFence}
 use Rattle.propagation.specs.Air.{airFence}
 use Rattle.propagation.specs.Angle.{angleFence}
 use Rattle.propagation.specs.Opposite.{oppositeFence}
 use Rattle.propagation.specs.Check.{segmentCheck}
 use Rattle.propagation.specs.Ground.{pathFence, groundMark, SegmentMark, SegmentMarkBy}
-use Rattle.propagation.specs.Propagation.{facadeTenths, segmentPartsBy, noSegmentParts, segmentBreakdownBy, segmentBreakdownOf, addedUp, propagationOf, segmentFence}
-use Rattle.propagation.specs.Results.{SegmentParted, Propagates}
-use Rattle.propagation.specs.Private.{Ranges, PathTenths, Added}
+use Rattle.propagation.specs.Propagation.{facadeTenths, segmentPartsBy, noSegmentParts, segmentBreakdownBy, segmentBreakdownOf, addedUp, propagationOf, noPropagation, segmentFence, refusalJudgement, judgementOf}
+use Rattle.propagation.specs.Results.{PartsBelow, SegmentParted, JudgementAllowed}
+use Rattle.propagation.specs.Private.{Ranges, PathTenths, Added, sumOf}
 use Rattle.propagation.proofs.Chain.{ranges}
 use Rattle.propagation.proofs.DistanceStep.{distance-lies}
 use Rattle.propagation.proofs.AirStep.{air-lies}
@@ -61,7 +65,7 @@ made d a v o p m f c t b = record { distance = d; air = a; angle = v; opposite =
 figure-read : {v r : ℤ} → r ≡ v → Below 2000 v → Exactly v (read r)
 figure-read e b = returned (lit≤ tt) e (subst (Below 2000) (sym e) b)
 
-pub parts-are : (s : Segment) {p : Propagation} {d a v o f : ℤ} → Ranges s → PathTenths s p → Exactly (nearest (distanceFence s)) d → Exactly (nearest (airFence s)) a → Exactly (nearest (angleFence s)) v → Exactly (nearest (oppositeFence s)) o → f ≡ facadeTenths s → SegmentParted (segmentPartsBy s (groundMark s)) (made (read d) (read a) (read v) (read o) (read (p .tenths)) (p .close) (read f) (read (s .chart)) (read (s .track)) (read (s .ballast)))
+pub parts-are : (s : Segment) {p : Path} {d a v o f : ℤ} → Ranges s → PathTenths s p → Exactly (nearest (distanceFence s)) d → Exactly (nearest (airFence s)) a → Exactly (nearest (angleFence s)) v → Exactly (nearest (oppositeFence s)) o → f ≡ facadeTenths s → SegmentParted (segmentPartsBy s (groundMark s)) (made (read d) (read a) (read v) (read o) (read (p .tenths)) (p .close) (read f) (read (s .chart)) (read (s .track)) (read (s .ballast)))
 unfolding segmentPartsBy
 parts-are s {p} g q d a v o f =
     let x = exactly-read d in
@@ -112,6 +116,15 @@ module _ (s : Segment) where
         small = record { distance = zero; air = zero; angle = zero; opposite = zero; path = zero; facade = zero; chart = zero; track = zero; ballast = zero };
       }
 
+-- ---- in 16 bits
+
+abbrev short : ℤ → ℤ
+short z = toZ w16 (ofZ w16 z)
+
+pub short-fits : (z : ℤ) → Below 20000 z → SFits w16 z
+short-fits (pos n) b = record { sfits = lt-of-lt-of-le (b .most) (lit≤ tt) }
+short-fits (negsuc n) b = record { sfits = omega (arith, b .least) }
+
 -- ---- their sum, as the code adds it
 
 -- four numbers, the last two first
@@ -153,36 +166,36 @@ module _ {m : ℕ} {a b c d : ℤ} (ta : Below 2000 a) (tb : Below 2000 b) (tc :
       record { is = e ∙ four-added .is; small = subst (Below (m + 6000)) (sym e) (four-added .small) }
 
 -- all of them, the readings first
-module _ {b v : SegmentBreakdown} (p : SegmentParted v b) {e : ℤ} (r : Added 8000 (b .facade) (b .chart) (b .track) (b .ballast) e) where
+module _ {b : SegmentBreakdown} (q : PartsBelow b) {e : ℤ} (r : Added 8000 (b .facade) (b .chart) (b .track) (b .ballast) e) where
   pub path-fits : SFits w32 (read (b .path) +ℤ read e)
-  path-fits = let q = p .small in first-fits (q .angle) (q .opposite) (q .path) (r .small) (lit≤ tt)
+  path-fits = first-fits (q .angle) (q .opposite) (q .path) (r .small) (lit≤ tt)
 
   pub opposite-fits : SFits w32 (read (b .opposite) +ℤ read (read (b .path) +ℤ read e))
-  opposite-fits = let q = p .small in second-fits (q .angle) (q .opposite) (q .path) (r .small) (lit≤ tt)
+  opposite-fits = second-fits (q .angle) (q .opposite) (q .path) (r .small) (lit≤ tt)
 
   abbrev across : ℤ
   across = read (b .angle) +ℤ read (read (b .opposite) +ℤ read (read (b .path) +ℤ read e))
 
   pub angle-fits : SFits w32 across
-  angle-fits = let q = p .small in third-fits (q .angle) (q .opposite) (q .path) (r .small) (lit≤ tt)
+  angle-fits = third-fits (q .angle) (q .opposite) (q .path) (r .small) (lit≤ tt)
 
   across-sum : Added 14000 (b .angle) (b .opposite) (b .path) e across
-  across-sum = let q = p .small in four-added (q .angle) (q .opposite) (q .path) (r .small) (lit≤ tt)
+  across-sum = four-added (q .angle) (q .opposite) (q .path) (r .small) (lit≤ tt)
 
   pub air-fits : SFits w32 (read (b .air) +ℤ read across)
-  air-fits = summand {x = b .air} {y = across} (p .small .air) (across-sum .small) (lit≤ tt)
+  air-fits = summand {x = b .air} {y = across} (q .air) (across-sum .small) (lit≤ tt)
 
   abbrev beyond : ℤ
   beyond = read (b .air) +ℤ read across
 
   air-sum : Sum 16000 (b .air) across beyond
-  air-sum = added {x = b .air} {y = across} (p .small .air) (across-sum .small) (lit≤ tt)
+  air-sum = added {x = b .air} {y = across} (q .air) (across-sum .small) (lit≤ tt)
 
   pub distance-fits : SFits w32 (read (b .distance) +ℤ read beyond)
-  distance-fits = summand {x = b .distance} {y = beyond} (p .small .distance) (air-sum .small) (lit≤ tt)
+  distance-fits = summand {x = b .distance} {y = beyond} (q .distance) (air-sum .small) (lit≤ tt)
 
   distance-sum : Sum 18000 (b .distance) beyond (read (read (b .distance) +ℤ read beyond))
-  distance-sum = summed {x = b .distance} {y = beyond} (p .small .distance) (air-sum .small) (lit≤ tt)
+  distance-sum = summed {x = b .distance} {y = beyond} (q .distance) (air-sum .small) (lit≤ tt)
 
   parts-add-up : read (read (b .distance) +ℤ read beyond) ≡ addedUp b
   unfolding addedUp
@@ -191,17 +204,34 @@ module _ {b v : SegmentBreakdown} (p : SegmentParted v b) {e : ℤ} (r : Added 8
       ∙ ap (λ (z : ℤ). b .distance +ℤ z)
       (air-sum .is ∙ ap (λ (z : ℤ). b .air +ℤ z) (across-sum .is ∙ ap (λ (z : ℤ). b .angle +ℤ (b .opposite +ℤ (b .path +ℤ z))) (r .is)))
 
-  pub propagates : (s : Segment) → v ≡ segmentBreakdownOf s → Propagates (propagationOf s) (record { tenths = read (read (b .distance) +ℤ read beyond); close = b .close })
-  unfolding propagationOf
-  propagates s i =
-      let same = p .is ∙ i in
-      record {
-        is = ap₂ propagation (parts-add-up ∙ ap addedUp same) (ap (λ (d : SegmentBreakdown). d .close) same);
-        small = below-more (lit≤ tt) (distance-sum .small);
-      }
-    where
-      propagation : ℤ → Bool → Propagation
-      propagation t c = record { tenths = t; close = c }
+  -- it fits in 16 bits
+  pub sum-fits : SFits w16 (read (read (b .distance) +ℤ read beyond))
+  sum-fits = short-fits (read (read (b .distance) +ℤ read beyond)) (below-more (lit≤ tt) (distance-sum .small))
+
+  pub sum-is : record { tenths = short (read (read (b .distance) +ℤ read beyond)); close = b .close } ≡ sumOf b
+  sum-is = ap (λ (t : ℤ). record { tenths = t; close = b .close }) (toZ-ofZ sum-fits ∙ parts-add-up)
+
+-- ---- the judgement: the check, and that sum or nothing
+
+abbrev judgement : Check → Propagation → Judgement
+judgement check added = record { check = check; propagation = added }
+
+module _ (s : Segment) where
+  pub judged-kept : {b : SegmentBreakdown} {p : Propagation} → segmentCheck s ≡ Accepted → SegmentParted (segmentPartsBy s (groundMark s)) b → p ≡ sumOf b → judgement Accepted p ≡ judgementOf s
+  unfolding judgementOf propagationOf
+  judged-kept e q i = ap₂ judgement (sym e) (i ∙ ap sumOf (accepted-parts s e q .is))
+
+  pub none-added : {k : Refusal} → segmentCheck s ≡ Refused k → noPropagation ≡ propagationOf s
+  unfolding propagationOf addedUp
+  none-added e = ap sumOf (refused-parts s e .is)
+
+  pub judged-refused : {k : Refusal} → segmentCheck s ≡ Refused k → refusalJudgement k ≡ judgementOf s
+  unfolding refusalJudgement judgementOf
+  judged-refused e = ap₂ judgement (sym e) (none-added e)
+
+  pub judgement-allowed : {r : Judgement} → r ≡ judgementOf s → JudgementAllowed s r
+  unfolding judgementOf propagationOf
+  judgement-allowed i = record { mark = rw i (own-mark-allowed s) }
 
 -- ---- near its fence
 

@@ -11,13 +11,16 @@ use Rattle.figures.specs.declared.Check.the-variants.{Accepted, Refused}
 use Rattle.figures.specs.Geometry.{inShadow}
 use Rattle.figures.specs.Rules.{unscreened}
 use Rattle.figures.specs.Bounds.{Below, Ranged, ReadingsRanged}
+use Rattle.propagation.specs.declared.SegmentBreakdown.{SegmentBreakdown}
 use Rattle.propagation.specs.declared.Propagation.{Propagation}
+use Rattle.propagation.specs.declared.ground.Path.{Path}
 use Rattle.propagation.specs.declared.check.Judged.{Judged}
 use Rattle.propagation.specs.declared.check.Judged.the-variants as J
 use Rattle.propagation.specs.Angle.{yOf}
 use Rattle.propagation.specs.Screen.{lengthOf, pathDifference, mostShadow}
 use Rattle.propagation.specs.Check.{segmentCheck}
 use Rattle.propagation.specs.Ground.{pathFence, groundMark}
+use Rattle.propagation.specs.Propagation.{addedUp}
 
 -- an accepted segment (`ranges` of proofs/Chain.antt)
 pub record Ranges (s : Segment) : Type 0 where
@@ -44,7 +47,7 @@ pub record View (view doubled : ℕ) (r : ℤ) : Type 0 where
   pub small : mag r < 20000000000
 
 -- ground, or the screen instead of it, with the ground's mark
-pub record PathTenths (s : Segment) (r : Propagation) : Type 0 where
+pub record PathTenths (s : Segment) (r : Path) : Type 0 where
   pub is : r .tenths ≡ byMark (groundMark s) (pathFence s)
   pub mark : r .close ≡ groundMark s
   pub small : Below 2000 (r .tenths)
@@ -53,3 +56,7 @@ pub record PathTenths (s : Segment) (r : Propagation) : Type 0 where
 pub record Added (bound : ℕ) (a b c d r : ℤ) : Type 0 where
   pub is : r ≡ a +ℤ (b +ℤ (c +ℤ d))
   pub small : Below bound r
+
+-- the parts added, with their mark
+abbrev pub sumOf : SegmentBreakdown → Propagation
+sumOf b = record { tenths = addedUp b; close = b .close }

@@ -1,13 +1,16 @@
--- What a segment adds to the level of each of its entries: its parts, and their sum (01, "The steps" and "The bare level").
+-- What a segment adds to the level of each of its entries: its parts, their sum, and its judgement (01, "The steps" and "The bare level").
 -- Assumes nothing.
 use mathlib.Core.Bool.{Bool, false, cond}
 use lib.IntN.{ℤ, pos, _+ℤ_}
 use Rattle.decibel.specs.Round.{micro, nearest, byMark}
 use Rattle.figures.specs.declared.Segment.{Segment}
+use Rattle.figures.specs.declared.Refusal.{Refusal}
+use Rattle.figures.specs.declared.Check.the-variants.{Refused}
 use Rattle.figures.specs.Refusal.{isAccepted}
 use Rattle.figures.specs.Rules.{within}
 use Rattle.propagation.specs.declared.SegmentBreakdown.{SegmentBreakdown}
 use Rattle.propagation.specs.declared.Propagation.{Propagation}
+use Rattle.propagation.specs.declared.Judgement.{Judgement}
 use Rattle.propagation.specs.Distance.{distanceFence}
 use Rattle.propagation.specs.Air.{airFence}
 use Rattle.propagation.specs.Angle.{angleFence}
@@ -57,8 +60,21 @@ addedUp b =
 unfoldable pub propagationOf : Segment → Propagation
 propagationOf s = record { tenths = addedUp (segmentBreakdownOf s); close = segmentBreakdownOf s .close }
 
+abbrev pub noPropagation : Propagation
+noPropagation = record { tenths = pos 0; close = false }
+
 -- with no step rounded
 unfoldable pub segmentFence : Segment → ℤ
 segmentFence s =
     distanceFence s
     +ℤ (airFence s +ℤ (angleFence s +ℤ (oppositeFence s +ℤ (pathFence s +ℤ micro (facadeTenths s +ℤ (s .chart +ℤ (s .track +ℤ s .ballast)))))))
+
+-- ---- judged
+
+-- a refusal, with nothing added
+unfoldable pub refusalJudgement : Refusal → Judgement
+refusalJudgement refusal = record { check = Refused refusal; propagation = noPropagation }
+
+-- a segment's check and what it adds
+unfoldable pub judgementOf : Segment → Judgement
+judgementOf s = record { check = segmentCheck s; propagation = propagationOf s }

@@ -7,9 +7,14 @@ ghost use Rattle.decibel.specs.Lookup.{Whole};
 ghost use Rattle.figures.specs.Rules.{unscreened};
 ghost use Rattle.propagation.specs.Ground.{groundFactor, attenuation, isClose};
 ghost use Rattle.propagation.specs.Private.{Ranges, PathTenths};
-use crate::Propagation;
 use figures::Segment;
 use figures::natural;
+
+// Ground, or the screen instead of it, in tenths, and the ground's close mark.
+pub(crate) struct Path {
+    pub(crate) tenths: i32,
+    pub(crate) close: bool,
+}
 
 // The factor, in microdecibels to the tenfold.
 fn ground_factor(s: Segment) -> u64
@@ -48,18 +53,18 @@ fn is_close(a: u64) -> bool
 }
 
 // Ground, where no screen stands.
-pub(crate) fn ground_step(s: Segment) -> Propagation
+pub(crate) fn ground_step(s: Segment) -> Path
     requires { ⌜ Ranges s × (unscreened s ≡ true) ⌝ }
     ensures { λ r. ⌜ PathTenths s r ⌝ }
 {
     if natural(s.distance) <= 2500 {
-        return Propagation {
+        return Path {
             tenths: 0,
             close: false,
         };
     }
     let a = attenuation_of(s);
-    Propagation {
+    Path {
         tenths: ground_tenths(a),
         close: is_close(a),
     }

@@ -11,12 +11,14 @@ mod screen;
 ghost use mathlib.Core.Path.{_≡_};
 ghost use Rattle.propagation.specs.Check.{segmentCheck};
 ghost use Rattle.propagation.specs.Ground.{groundMark, SegmentMark};
-ghost use Rattle.propagation.specs.Propagation.{segmentPartsBy, segmentBreakdownOf, propagationOf};
-ghost use Rattle.propagation.specs.Results.{PartsBelow, SegmentParted, Propagates};
-ghost use Rattle.propagation.specs.Private.{Ranges, Differs, PathTenths, Added};
+ghost use Rattle.propagation.specs.Propagation.{segmentPartsBy, segmentBreakdownOf, propagationOf, refusalJudgement, judgementOf};
+ghost use Rattle.propagation.specs.Results.{PartsBelow, SegmentParted, JudgementAllowed};
+ghost use Rattle.propagation.specs.Private.{Ranges, Differs, PathTenths, Added, sumOf};
 use check::Judged;
 use figures::Check;
+use figures::Refusal;
 use figures::Segment;
+use ground::Path;
 
 // What each step of a segment adds, in tenths, and the ground's close mark.
 pub struct SegmentBreakdown {
@@ -35,8 +37,15 @@ pub struct SegmentBreakdown {
 
 // What a segment adds to the level of each of its entries, and whether its ground step is marked as close to a tie.
 pub struct Propagation {
-    pub tenths: i32,
+    // 16 bits hold it, so that a judgement is small
+    pub tenths: i16,
     pub close: bool,
+}
+
+// A segment judged once: its check, and what it adds.
+pub struct Judgement {
+    pub check: Check,
+    pub propagation: Propagation,
 }
 
 // The first line that a segment does not keep.
@@ -50,14 +59,14 @@ pub fn segment_check(s: Segment) -> Check
 }
 
 // Ground, or the screen instead of it, for a path difference of m.
-fn path_step(s: Segment, m: u64) -> Propagation
+fn path_step(s: Segment, m: u64) -> Path
     requires { ⌜ Ranges s × Differs s m ⌝ }
     ensures { λ r. ⌜ PathTenths s r ⌝ }
 {
     if figures::is_unscreened(s) {
         return ground::ground_step(s);
     }
-    Propagation {
+    Path {
         tenths: screen::screen_step(s, m),
         close: false,
     }
@@ -113,16 +122,54 @@ fn readings_of(b: SegmentBreakdown) -> i32
     b.facade + (b.chart + (b.track + b.ballast))
 }
 
-// The sum of a segment's parts, and the ground's close mark; nothing of a refused segment.
+// The sum of a segment's parts, and the ground's close mark.
+fn sum_of(b: SegmentBreakdown) -> Propagation
+    requires { ⌜ PartsBelow b ⌝ }
+    ensures { λ r. ⌜ r ≡ sumOf b ⌝ }
+{
+    let readings = readings_of(b);
+    let across = b.angle + (b.opposite + (b.path + readings));
+    Propagation {
+        tenths: (b.distance + (b.air + across)) as i16,
+        close: b.close,
+    }
+}
+
+// A refusal, with nothing added.
+pub fn refusal_judgement(refusal: Refusal) -> Judgement
+    ensures { λ r. ⌜ r ≡ refusalJudgement refusal ⌝ }
+{
+    Judgement {
+        check: Check::Refused(refusal),
+        propagation: Propagation {
+            tenths: 0,
+            close: false,
+        },
+    }
+}
+
+// The first line that a segment does not keep, and what it adds; nothing of a refused one.
+pub fn judged(s: Segment) -> Judgement
+    ensures is { λ r. ⌜ r ≡ judgementOf s ⌝ }
+    ensures allowed { λ r. ⌜ JudgementAllowed s r ⌝ }
+{
+    match check::judge(s) {
+        Judged::Kept(m) => {
+            let parts = parts_of(s, m);
+            Judgement {
+                check: Check::Accepted,
+                propagation: sum_of(parts),
+            }
+        }
+        Judged::Refused(refusal) => refusal_judgement(refusal),
+    }
+}
+
+// What a segment adds; nothing of a refused one.
 pub fn propagation_of(s: Segment) -> Propagation
-    ensures is { λ r. ⌜ Propagates (propagationOf s) r ⌝ }
+    ensures is { λ r. ⌜ r ≡ propagationOf s ⌝ }
     ensures allowed { λ r. ⌜ SegmentMark s (r .close) ⌝ }
 {
-    let parts = segment_breakdown_of(s);
-    let readings = readings_of(parts);
-    let across = parts.angle + (parts.opposite + (parts.path + readings));
-    Propagation {
-        tenths: parts.distance + (parts.air + across),
-        close: parts.close,
-    }
+    let found = judged(s);
+    found.propagation
 }

@@ -11,14 +11,18 @@ use borrow.Author.Count.{below-more}
 use lib.IntN.{ℤ, pos}
 use lib.ListN.{length, getD, set, replicate, length-set, List·getD-map, List·getD-eq-default}
 use lib.Seq.{getD-set-same, getD-set-other}
+use mir.Syntax.{w16, w32}
+use mir.Val.{SFits, toZ, ofZ}
+use mir.Facts.{sfits-widen, toZ-ofZ}
 use Rattle.figures.specs.declared.Segment.{Segment}
 use Rattle.figures.specs.Refusal.{unless, isAccepted}
 use Rattle.figures.specs.Rules.{distanceKept, rangesThen}
+use Rattle.figures.specs.Bounds.{Below}
 use Rattle.propagation.specs.declared.Propagation.{Propagation}
 use Rattle.propagation.specs.Check.{segmentCheck}
 use Rattle.propagation.specs.Ground.{groundMark}
 use Rattle.propagation.specs.Propagation.{segmentPartsBy, noSegmentParts, segmentBreakdownBy, segmentBreakdownOf, addedUp, propagationOf}
-use Rattle.propagation.proofs.SegmentSum.{propagation-small}
+use Rattle.propagation.proofs.SegmentSum.{short-fits, propagation-small}
 use Rattle.study.specs.Plan.{Plan, segmentAt, noSegment}
 use Rattle.study.specs.Levels.{markAt, groundMarks}
 use Rattle.study.specs.Private.{Propagated}
@@ -43,6 +47,21 @@ own-tenths s = go (isAccepted (segmentCheck s))
     go : (b : Bool) → addedUp (cond b (segmentPartsBy s (cond b (segmentPartsBy s (groundMark s)) noSegmentParts .close)) noSegmentParts) ≡ addedUp (cond b (segmentPartsBy s (groundMark s)) noSegmentParts)
     go true = refl
     go false = refl
+
+-- ---- what a segment adds, read in 16 bits and widened to 32
+
+module _ (s : Segment) {p : Propagation} (e : p ≡ propagationOf s) where
+  small : Below 20000 (p .tenths)
+  small = rw e (propagation-small s)
+
+  read-is : toZ w16 (ofZ w16 (p .tenths)) ≡ p .tenths
+  read-is = toZ-ofZ (short-fits (p .tenths) small)
+
+  pub widened-fits : SFits w32 (toZ w16 (ofZ w16 (p .tenths)))
+  widened-fits = rw read-is (sfits-widen {w = w16} tt (short-fits (p .tenths) small))
+
+  pub widened-is : toZ w32 (ofZ w32 (toZ w16 (ofZ w16 (p .tenths)))) ≡ p .tenths
+  widened-is = toZ-ofZ widened-fits ∙ read-is
 
 -- ---- the arrays, filled from the front
 

@@ -63,7 +63,7 @@ fn propagate(
     while k < places {
         let segment = segments[k];
         let found = propagation::propagation_of(segment);
-        let added = found.tenths;
+        let added = found.tenths as i32;
         let marked = found.close;
         tenths[k] = added;
         close[k] = marked;

@@ -5,15 +5,13 @@ use native.Mathlib.Omega.{arith}
 use Prim.Native.Nat.{_≤_, _-_}
 use mathlib.Core.Bool.{false}
 use mathlib.Core.Path.{_≡_, sym, ap, _∙_}
-use lib.Dec.{lit≤}
 use lib.IntN.{pos}
 use lib.ListN.{length, take}
-use Rattle.figures.proofs.Signs.{below-more, below-back}
 use Rattle.propagation.specs.declared.Propagation.{Propagation}
 use Rattle.propagation.specs.Propagation.{propagationOf}
 use Rattle.study.specs.Plan.{noSegment}
 use Rattle.study.proofs.Sizes.{taken-length, taken-at}
-use Rattle.study.proofs.Found.{FilledTo, filled-none, filled-more, tenthsOf, closeOf, found-all}
+use Rattle.study.proofs.Found.{widened-fits, widened-is, FilledTo, filled-none, filled-more, tenthsOf, closeOf, found-all}
 use Rattle.study.proofs.request.propagate.Statement.{statement}
 use Rattle.study.proofs.request.propagate.Tie as tie
 
@@ -31,24 +29,27 @@ loop-holds c =
     let ss = take (a .count) (a .t1) in
     (omega arith, omega arith, taken-length (a .t1) (a .count) 24 (c .at-most .result) (omega arith) (c .at-most .ensures), filled-none (pos 0) (tenthsOf ss) (start .pre .tenths), filled-none false (closeOf ss) (start .pre .close))
 
+cast-added : tie.Need-cast-added Inv-loop μ-loop
+cast-added c = widened-fits _ (c .before .before .propagation-of .ensures .0)
+
 slice-set-from-added : tie.Need-slice-set-from-added Inv-loop μ-loop
-slice-set-from-added c = let v = c .before .before .before .before .loop in omega (arith, v .inv .3 .size)
+slice-set-from-added c = let v = c .before .before .before .before .before .loop in omega (arith, v .inv .3 .size)
 
 slice-write-close : tie.Need-slice-write-close Inv-loop μ-loop
-slice-write-close c = let v = c .before .before .before .before .loop in omega (arith, v .inv .4 .size)
+slice-write-close c = let v = c .before .before .before .before .before .loop in omega (arith, v .inv .4 .size)
 
 loop-again : tie.Need-loop-again Inv-loop μ-loop
 loop-again c =
-    let r = c .before .propagation-of in
-    let at = c .before .before .before .before in
+    let r = c .before .before .propagation-of in
+    let at = c .before .before .before .before .before in
     let v = at .loop in
     let a = at .before .before .before .args in
     let ss = take (a .count) (a .t1) in
-    let same = r .ensures .0 .is ∙ ap propagationOf (sym (taken-at (a .t1) (a .count) (v .k) noSegment (omega arith))) in (
+    let same = r .ensures .0 ∙ ap propagationOf (sym (taken-at (a .t1) (a .count) (v .k) noSegment (omega arith))) in (
       omega arith,
       v .inv .1,
       v .inv .2,
-      filled-more (pos 0) (tenthsOf ss) (v .k) (omega arith) (v .inv .3) (below-back (below-more (lit≤ tt) (r .ensures .0 .small)) ∙ ap (λ (p : Propagation). p .tenths) same),
+      filled-more (pos 0) (tenthsOf ss) (v .k) (omega arith) (v .inv .3) (widened-is _ (r .ensures .0) ∙ ap (λ (p : Propagation). p .tenths) same),
       filled-more false (closeOf ss) (v .k) (omega arith) (v .inv .4) (ap (λ (p : Propagation). p .close) same),
     )
 
@@ -69,5 +70,5 @@ propagate-spec =
     tie.close
     (tie.spec
     Inv-loop μ-loop (λ c κs. search needs) loop-holds (λ c. omega arith) (λ c. omega arith) (λ c κs. search needs)
-    (λ c. omega arith) slice-set-from-added slice-write-close (λ c. omega arith) (λ c. omega arith) loop-again
+    cast-added (λ c. omega arith) slice-set-from-added slice-write-close (λ c. omega arith) (λ c. omega arith) loop-again
     same-length same-length-2 returns)
