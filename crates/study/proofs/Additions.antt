@@ -1,7 +1,7 @@
--- An addition's check, and the study that it answers.
+-- An addition's check, the study that it answers, and a segment's judgement.
 -- Assumes nothing.
-use mathlib.Core.Path.{_≡_, refl}
-use mathlib.Core.Bool.{Bool, true, false, not}
+use mathlib.Core.Path.{_≡_, refl, sym, _∙_, ap}
+use mathlib.Core.Bool.{Bool, true, false, not, cond}
 use Prim.Native.Nat.{ℕ, _≤_, _<_}
 use borrow.Author.Tests.{le-leb, lt-leb, eq-eqb, ne-eqb, leb-false, eqb-false}
 use lib.Dec.{leb, eqb}
@@ -11,12 +11,18 @@ use Rattle.figures.specs.declared.Refusal.{Refusal}
 use Rattle.figures.specs.declared.Refusal.the-variants.{NoSegment, SegmentLimit, EntryLimit}
 use Rattle.figures.specs.declared.Check.{Check}
 use Rattle.figures.specs.declared.Check.the-variants.{Accepted, Refused}
-use Rattle.figures.specs.Refusal.{unless, firstRefused}
+use Rattle.figures.specs.Refusal.{unless, firstRefused, isAccepted}
 use Rattle.figures.specs.Rules.{trainCheck}
+use Rattle.propagation.specs.declared.Propagation.{Propagation}
+use Rattle.propagation.specs.declared.Judgement.{Judgement}
 use Rattle.propagation.specs.Check.{segmentCheck}
+use Rattle.propagation.specs.Ground.{SegmentMark, SegmentMarkBy}
+use Rattle.propagation.specs.Propagation.{propagationOf, noPropagation, refusalJudgement, judgementOf}
+use Rattle.propagation.specs.Results.{JudgementAllowed}
+use Rattle.propagation.proofs.SegmentSum.{none-added}
 use Rattle.study.specs.declared.Study.{Study}
 use Rattle.study.specs.declared.Added.{Added}
-use Rattle.study.specs.Add.{Limits, segmentLimit, segmentAnswer, trainLimit, trainAnswer, answer}
+use Rattle.study.specs.Add.{Limits, segmentLimit, segmentAnswer, segmentJudgement, SegmentJudgementAllowed, trainLimit, trainAnswer, answer}
 
 -- ---- the answer by its check
 
@@ -111,3 +117,32 @@ module _ (l : Limits) (count total : ℕ) (t : Train) where
         room = leb-false (l .entries) total (kept-first (leb (l .entries) total) EntryLimit Accepted rest);
         kept = both .1;
       }
+
+-- ---- a segment's judgement: at the limit nothing is added, else it is the segment's own
+
+module _ (l : Limits) (count : ℕ) (s : Segment) where
+  own-propagation : propagationOf s ≡ cond (isAccepted (segmentCheck s)) (propagationOf s) noPropagation
+  unfolding isAccepted
+  own-propagation = go (segmentCheck s) refl
+    where
+      go : (c : Check) → segmentCheck s ≡ c → propagationOf s ≡ cond (isAccepted c) (propagationOf s) noPropagation
+      go Accepted e = refl
+      go (Refused k) e = sym (none-added s e)
+
+  module _ (e : segmentLimit l count ≡ Accepted) {r : Judgement} where
+    pub judged-within : r ≡ judgementOf s → r ≡ segmentJudgement l count s
+    unfolding segmentJudgement segmentAnswer judgementOf firstRefused
+    judged-within i = i ∙ rw e (ap (λ (p : Propagation). record { check = segmentCheck s; propagation = p }) own-propagation)
+
+    pub allowed-within : JudgementAllowed s r → SegmentJudgementAllowed l count s r
+    unfolding SegmentMark segmentAnswer firstRefused
+    allowed-within a = record { mark = rw e (a .mark) }
+
+  module _ {k : Refusal} (e : segmentLimit l count ≡ Refused k) {r : Judgement} (i : r ≡ refusalJudgement k) where
+    pub judged-past : r ≡ segmentJudgement l count s
+    unfolding segmentJudgement segmentAnswer firstRefused isAccepted refusalJudgement
+    judged-past = i ∙ rw e refl
+
+    pub allowed-past : SegmentJudgementAllowed l count s r
+    unfolding segmentAnswer firstRefused isAccepted SegmentMarkBy refusalJudgement
+    allowed-past = record { mark = rw (e, i) refl }

@@ -1,6 +1,6 @@
 -- The additions to a study: what each answers, for every study and every figure (01, "Turned back").
 -- Assumes nothing.
-use mathlib.Core.Bool.{not}
+use mathlib.Core.Bool.{not, cond}
 use Prim.Native.Nat.{ℕ, _+_, _-_}
 use lib.Dec.{leb, eqb}
 use lib.ListN.{set}
@@ -9,9 +9,12 @@ use Rattle.figures.specs.declared.Train.{Train}
 use Rattle.figures.specs.declared.Refusal.the-variants.{NoSegment, SegmentLimit, EntryLimit}
 use Rattle.figures.specs.declared.Check.{Check}
 use Rattle.figures.specs.declared.Check.the-variants.{Accepted, Refused}
-use Rattle.figures.specs.Refusal.{unless, firstRefused}
+use Rattle.figures.specs.Refusal.{unless, firstRefused, isAccepted}
 use Rattle.figures.specs.Rules.{trainCheck}
+use Rattle.propagation.specs.declared.Judgement.{Judgement}
 use Rattle.propagation.specs.Check.{segmentCheck}
+use Rattle.propagation.specs.Ground.{SegmentMarkBy}
+use Rattle.propagation.specs.Propagation.{propagationOf, noPropagation}
 use Rattle.study.specs.declared.Study.{Study}
 use Rattle.study.specs.declared.Added.{Added}
 
@@ -30,6 +33,18 @@ segmentLimit l count = unless (not (leb (l .segments) count)) SegmentLimit Accep
 -- "These come first": the state's refusal, then the segment's own lines
 unfoldable pub segmentAnswer : Limits → ℕ → Segment → Check
 segmentAnswer l count s = firstRefused (segmentLimit l count) (segmentCheck s)
+
+-- that answer, and what the segment adds where it is accepted
+unfoldable pub segmentJudgement : Limits → ℕ → Segment → Judgement
+segmentJudgement l count s =
+    record {
+      check = segmentAnswer l count s;
+      propagation = cond (isAccepted (segmentAnswer l count s)) (propagationOf s) noPropagation;
+    }
+
+-- the mark is one that 01 allows the segment, and none where it is refused
+pub record SegmentJudgementAllowed (l : Limits) (count : ℕ) (s : Segment) (r : Judgement) : Type 0 where
+  pub mark : SegmentMarkBy (isAccepted (segmentAnswer l count s)) s (r .propagation .close)
 
 -- 20 without a segment, then 22: with so many entries held, none may be added
 unfoldable pub trainLimit : Limits → ℕ → ℕ → Check

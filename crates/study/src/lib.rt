@@ -11,12 +11,13 @@ pub use request::levels_of;
 ghost use mathlib.Core.Path.{_≡_};
 ghost use Prim.Native.Nat.{min};
 ghost use Rattle.study.specs.Plan.{noSegment, noEntry, emptyStudy, planOf, heldBy};
-ghost use Rattle.study.specs.Add.{ours, segmentLimit, segmentAnswer, trainLimit, trainAnswer, addSegment, addTrain};
+ghost use Rattle.study.specs.Add.{ours, segmentLimit, segmentAnswer, segmentJudgement, SegmentJudgementAllowed, trainLimit, trainAnswer, addSegment, addTrain};
 ghost use Rattle.study.specs.Run.{runFrom, listed};
 use figures::Check;
 use figures::Refusal;
 use figures::Segment;
 use figures::Train;
+use propagation::Judgement;
 
 // How many segments, and how many train entries in all, a study may hold.
 pub const MOST_SEGMENTS: usize = 24;
@@ -107,6 +108,17 @@ pub fn segment_answer(count: usize, segment: Segment) -> Check
 {
     let limit = segment_limit(count);
     figures::first_refused(limit, propagation::segment_check(segment))
+}
+
+// The same answer, and what the segment adds to the level of each of its entries, judged once; nothing of a refused one.
+pub fn segment_judgement(count: usize, segment: Segment) -> Judgement
+    ensures is { λ r. ⌜ r ≡ segmentJudgement ours count segment ⌝ }
+    ensures allowed { λ r. ⌜ SegmentJudgementAllowed ours count segment r ⌝ }
+{
+    match segment_limit(count) {
+        Check::Accepted => propagation::judged(segment),
+        Check::Refused(refusal) => propagation::refusal_judgement(refusal),
+    }
 }
 
 // The study with the segment after its last, or the refusal and the study as it was.
