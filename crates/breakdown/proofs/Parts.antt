@@ -16,11 +16,11 @@ use Rattle.figures.specs.Rules.{unscreened}
 use Rattle.figures.proofs.Signs.{read}
 use Rattle.study.specs.declared.Entry.{Entry}
 use Rattle.study.specs.declared.Study.{Study}
-use Rattle.study.specs.declared.request.Answer.{Answer}
+use Rattle.request.specs.declared.Answer.{Answer}
 use Rattle.study.specs.Add.{ours}
 use Rattle.study.specs.Plan.{Plan, planOf, noSegment, noEntry}
-use Rattle.study.specs.Levels.{ownMarks}
-use Rattle.study.specs.Request.{AnsweredBy}
+use Rattle.request.specs.Levels.{ownMarks}
+use Rattle.request.specs.Request.{AnsweredBy}
 use Rattle.text.specs.Text.{readText}
 use Rattle.writing.specs.Bytes.{ascii, figureOf}
 use Rattle.writing.specs.Pages.{putEach, Put, PutEach}

@@ -6,8 +6,8 @@ use lib.IntN.{ℤ, pos}
 use lib.ListN.{length, getD, replicate}
 use Rattle.study.specs.declared.Entry.{Entry}
 use Rattle.study.specs.Plan.{Plan, noEntry, segmentAt}
-use Rattle.study.specs.Levels.{MarksAllowed, ownMarks}
-use Rattle.study.specs.Request.{levelsCheck, cellsBy}
+use Rattle.request.specs.Levels.{MarksAllowed, ownMarks}
+use Rattle.request.specs.Request.{levelsCheck, cellsBy}
 use Rattle.writing.specs.Pages.{PutEach}
 use Rattle.text.specs.Answer.{planIn}
 use Rattle.report.specs.Report.{cellsLent, reportOf}

@@ -4,7 +4,7 @@ ghost use lib.IntN.{pos};
 ghost use lib.ListN.{getD};
 ghost use Rattle.study.specs.Plan.{planOf};
 ghost use Rattle.writing.specs.Pages.{Put, PutEach};
-ghost use Rattle.study.specs.Levels.{MarksAllowed, ownMarks};
+ghost use Rattle.request.specs.Levels.{MarksAllowed, ownMarks};
 ghost use Rattle.text.specs.Answer.{planIn};
 ghost use Rattle.report.specs.Report.{reportOf};
 ghost use Rattle.breakdown.specs.Lines.{figurePart, levelPart, cellLevel, pathPart, closePart, stepParts, readingParts, reflectionParts, numberPart, segmentParts, trainParts, levelParts, numberAt, entryParts};
@@ -221,7 +221,7 @@ pub fn put_study(study: Study, out: &mut [u8], at: usize) -> usize
     ensures { λ r. ⌜ PutEach (now (out .entry)) at (studyParts (planOf study)) (now (out .exit)) r ⌝ }
 {
     let mut cells = [0i32; 192];
-    let _ = study::levels(study, &mut cells);
+    let _ = request::levels(study, &mut cells);
     let next = put_segments(study, out, at);
     put_entries(study, &cells, out, next)
 }

@@ -9,15 +9,15 @@ use Rattle.figures.specs.declared.Period.{Period}
 use Rattle.figures.specs.declared.Period.the-variants.{Day, Night}
 use Rattle.figures.specs.declared.Check.the-variants.{Accepted}
 use Rattle.figures.specs.Refusal.{checkNumber}
-use Rattle.study.specs.declared.request.PeriodResult.{PeriodResult}
-use Rattle.study.specs.declared.request.Answer.{Answer}
+use Rattle.request.specs.declared.PeriodResult.{PeriodResult}
+use Rattle.request.specs.declared.Answer.{Answer}
 use Rattle.study.specs.Add.{ours}
 use Rattle.study.specs.Plan.{Plan, planOf}
-use Rattle.study.specs.Levels.{ownMarks}
-use Rattle.study.specs.Request.{cellsNeeded, levelsCheck, answerBy, Answered, resultIn}
-use Rattle.study.specs.Accuracy.{AccurateToBare, demanded}
+use Rattle.request.specs.Levels.{ownMarks}
+use Rattle.request.specs.Request.{cellsNeeded, levelsCheck, answerBy, Answered, resultIn}
+use Rattle.request.specs.Accuracy.{AccurateToBare, demanded}
 use Rattle.study.proofs.Runs.{run-accepted}
-use Rattle.study.proofs.Demand3.{request-answered, ours-fit}
+use Rattle.request.proofs.Demand3.{request-answered, ours-fit}
 use Rattle.text.specs.Text.{readText}
 use Rattle.text.specs.Additions.{additionsOf}
 use Rattle.text.proofs.Runs.{accepted-text-is-run, accepted-line}

@@ -14,9 +14,9 @@ use Rattle.figures.specs.declared.Check.the-variants.{Accepted}
 use Rattle.study.specs.Plan.{Plan}
 use Rattle.study.specs.Add.{ours}
 use Rattle.study.specs.Run.{accepted}
-use Rattle.study.specs.Levels.{limitOf}
-use Rattle.study.specs.Request.{cellsNeeded}
-use Rattle.study.specs.Accuracy.{hasTrains, Bare, demanded}
+use Rattle.request.specs.Levels.{limitOf}
+use Rattle.request.specs.Request.{cellsNeeded}
+use Rattle.request.specs.Accuracy.{hasTrains, Bare, demanded}
 use Rattle.text.specs.Text.{readText}
 use Rattle.text.specs.Additions.{additionsOf}
 use Rattle.railnoise_c.specs.declared.RailnoisePeriod.{RailnoisePeriod}

@@ -9,9 +9,9 @@ use lib.ListN.{length}
 use Rattle.decibel.specs.declared.Level.{Level}
 use Rattle.decibel.specs.declared.Level.the-variants.{Silent, Figure}
 use Rattle.figures.specs.Refusal.{checkNumber}
-use Rattle.study.specs.declared.request.PeriodResult.{PeriodResult}
+use Rattle.request.specs.declared.PeriodResult.{PeriodResult}
 use Rattle.study.specs.Add.{ours}
-use Rattle.study.specs.Levels.{ownMarks, MarksAllowed}
+use Rattle.request.specs.Levels.{ownMarks, MarksAllowed}
 use Rattle.text.specs.declared.TextAnswer.{TextAnswer}
 use Rattle.text.specs.Text.{readText}
 use Rattle.text.specs.Answer.{cellsWith, planIn, textAnswer}

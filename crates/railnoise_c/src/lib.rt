@@ -2,7 +2,7 @@
 ghost use mathlib.Core.Path.{_≡_};
 ghost use Rattle.railnoise_c.specs.Exported.{exportedPeriod, exportedLine, exported, Called};
 use decibel::Level;
-use study::PeriodResult;
+use request::PeriodResult;
 use text::TextAnswer;
 
 // `railnoise_period`: the level in tenths, 0 when silent.

@@ -72,7 +72,7 @@ fn show_trial(
     let held = study::add_segment(first, plain_segment(distance));
     let second = with_trains(held.study, trains);
     let full = study::add_train(second, plain_train(row));
-    let answer = study::levels(full.study, cells);
+    let answer = request::levels(full.study, cells);
     let segment = held.check;
     let train = full.check;
     let asked = answer.check;

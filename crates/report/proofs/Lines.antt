@@ -12,7 +12,7 @@ use mir.Val.{SFits}
 use Rattle.decibel.specs.declared.Level.{Level}
 use Rattle.decibel.specs.declared.Level.the-variants.{Silent, Figure}
 use Rattle.figures.specs.declared.Refusal.{Refusal}
-use Rattle.study.specs.declared.request.PeriodResult.{PeriodResult}
+use Rattle.request.specs.declared.PeriodResult.{PeriodResult}
 use Rattle.writing.specs.Bytes.{ascii, digitsOf, figureOf}
 use Rattle.writing.specs.Pages.{Put}
 use Rattle.writing.proofs.Digits.{digits-length}

@@ -6,8 +6,8 @@ use lib.ListN.{length}
 use Rattle.figures.specs.declared.Refusal.{Refusal}
 use Rattle.figures.specs.declared.Check.{Check}
 use Rattle.figures.specs.declared.Check.the-variants.{Accepted, Refused}
-use Rattle.study.specs.declared.request.PeriodResult.{PeriodResult}
-use Rattle.study.specs.Levels.{MarksAllowed, ownMarks}
+use Rattle.request.specs.declared.PeriodResult.{PeriodResult}
+use Rattle.request.specs.Levels.{MarksAllowed, ownMarks}
 use Rattle.text.specs.declared.TextAnswer.{TextAnswer}
 use Rattle.text.specs.Answer.{planIn, textAnswer}
 use Rattle.writing.specs.Bytes.{ascii, digitsOf}

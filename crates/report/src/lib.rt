@@ -9,7 +9,7 @@ ghost use Rattle.report.specs.Private.{PutWithin};
 use decibel::Level;
 use figures::Check;
 use figures::Refusal;
-use study::PeriodResult;
+use request::PeriodResult;
 
 // How many bytes of the report and of the notice were written.
 pub struct Written {

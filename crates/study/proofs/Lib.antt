@@ -4,15 +4,3 @@ pub mod Plans
 pub mod Listed
 pub mod Remaining
 pub mod Sizes
-pub mod EntryLevels
-pub mod Found
-pub mod Cells
-pub mod Verdicts
-pub mod Hearing
-pub mod Totals
-pub mod Counts
-pub mod Results
-pub mod Answers
-pub mod Entries
-pub mod Demand3
-pub mod Readings

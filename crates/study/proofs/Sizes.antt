@@ -1,6 +1,6 @@
 -- How many segments and entries a study's plan has, and what stands at their places.
 -- Assumes nothing.
-use mathlib.Core.Path.{_≡_, sym, ap, ap₂, _∙_}
+use mathlib.Core.Path.{_≡_, refl, sym, ap, ap₂, _∙_, subst}
 use mathlib.Core.List.{List, [], _∷_}
 use Prim.Native.Nat.{ℕ, _<_, _≤_, min}
 use native.Mathlib.Nat.{min-eq-left, lt-of-not-le}
@@ -17,7 +17,7 @@ use Rattle.study.specs.declared.Study.{Study}
 use Rattle.study.specs.declared.lists.Holdings.{Holdings}
 use Rattle.study.proofs.Study.{the-type as study-type}
 use Rattle.study.proofs.Study.Laws.{the-laws as study-laws}
-use Rattle.study.specs.Plan.{Plan, planOf, heldBy, Opens, segmentAt, noSegment, noEntry}
+use Rattle.study.specs.Plan.{Plan, planOf, heldBy, holdingsOf, segmentAt, noSegment, noEntry}
 
 -- what the borrow checker gives of a study that is passed by value
 abbrev pub Passed : Study → Type 0
@@ -67,17 +67,23 @@ module _ (st : Study) (passed : Passed st) where
   unfolding planOf
   few-entries = omega (arith, entries-size st passed, length-take (st .total) (st .entries))
 
--- a study's own arrays and counts, as far as they reach, open it
-pub opens : (st : Study) → Passed st → {count total : ℕ} → count ≡ min (st .count) 24 → total ≡ min (st .total) 96 → Opens st (record { count = count; total = total; segments = st .segments; entries = st .entries })
-unfolding planOf
-opens st passed {count} {total} c t =
-    let few = plan-count st passed c in
-    let rows = plan-total st passed t in
-    record {
+-- what is read of a study is its plan, at places that the arrays have
+pub record Opens (st : Study) (r : Holdings) : Type 0 where
+  pub plan : planOf (heldBy (r .segments) (r .count) (r .entries) (r .total)) ≡ planOf st
+  pub count : r .count ≡ length (planOf st .segments)
+  pub total : r .total ≡ length (planOf st .entries)
+
+pub opens : (st : Study) → Passed st → {r : Holdings} → r ≡ holdingsOf st → Opens st r
+unfolding planOf holdingsOf
+opens st passed e =
+    let few = plan-count st passed refl in
+    let rows = plan-total st passed refl in
+    subst (Opens st) (sym e)
+    (record {
       plan = ap₂ (λ (ss : List Segment) (es : List Entry). record { segments = ss; entries = es }) (taken-again (st .segments) (st .count) few) (taken-again (st .entries) (st .total) rows);
       count = few;
       total = rows;
-    }
+    })
 
 module _ (st : Study) where
   pub plan-segment : (k : ℕ) → k < length (planOf st .segments) → segmentAt (planOf st) k ≡ getD (st .segments) k noSegment

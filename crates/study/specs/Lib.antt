@@ -1,9 +1,3 @@
 pub mod Plan
 pub mod Add
 pub mod Run
-pub mod Entry
-pub mod Levels
-pub mod Request
-pub mod Accuracy
-pub mod Private
-pub mod Readings

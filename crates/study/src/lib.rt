@@ -1,16 +1,11 @@
 // A study: segments and train entries, added one after another and refused where document 01 says so.
 mod lists;
-mod request;
 
 pub use lists::Holdings;
 pub use lists::holdings_of;
-pub use request::Answer;
-pub use request::PeriodResult;
-pub use request::levels;
-pub use request::levels_of;
 ghost use mathlib.Core.Path.{_≡_};
 ghost use Prim.Native.Nat.{min};
-ghost use Rattle.study.specs.Plan.{noSegment, noEntry, emptyStudy, planOf, heldBy};
+ghost use Rattle.study.specs.Plan.{noSegment, noTrain, noEntry, emptyStudy, planOf, heldBy};
 ghost use Rattle.study.specs.Add.{ours, segmentLimit, segmentAnswer, segmentJudgement, SegmentJudgementAllowed, trainLimit, trainAnswer, addSegment, addTrain};
 ghost use Rattle.study.specs.Run.{runFrom, listed};
 use figures::Check;
@@ -45,7 +40,7 @@ pub struct Added {
 }
 
 // What stands in a place that no segment was added to.
-pub fn no_segment() -> Segment
+fn no_segment() -> Segment
     ensures { λ r. ⌜ r ≡ noSegment ⌝ }
 {
     Segment {
@@ -66,18 +61,27 @@ pub fn no_segment() -> Segment
     }
 }
 
-// What stands in a place that no entry was added to.
-pub fn no_entry() -> Entry
-    ensures { λ r. ⌜ r ≡ noEntry ⌝ }
+// What stands in a place that no train was added to.
+pub fn no_train() -> Train
+    ensures { λ r. ⌜ r ≡ noTrain ⌝ }
 {
-    let train = Train {
+    Train {
         row: 0,
         speed: 0,
         vehicles: 0,
         day: 0,
         night: 0,
-    };
-    Entry { segment: 0, train }
+    }
+}
+
+// What stands in a place that no entry was added to.
+fn no_entry() -> Entry
+    ensures { λ r. ⌜ r ≡ noEntry ⌝ }
+{
+    Entry {
+        segment: 0,
+        train: no_train(),
+    }
 }
 
 // The study with nothing in it.

@@ -1,5 +1,6 @@
 // What a study holds, for other crates to read.
-ghost use Rattle.study.specs.Plan.{Opens};
+ghost use mathlib.Core.Path.{_≡_};
+ghost use Rattle.study.specs.Plan.{holdingsOf};
 use crate::Entry;
 use crate::MOST_ENTRIES;
 use crate::MOST_SEGMENTS;
@@ -16,7 +17,7 @@ pub struct Holdings {
 }
 
 pub fn holdings_of(study: Study) -> Holdings
-    ensures { λ r. ⌜ Opens study r ⌝ }
+    ensures { λ r. ⌜ r ≡ holdingsOf study ⌝ }
 {
     let segments = study.segments;
     let entries = study.entries;

@@ -9,12 +9,12 @@ use lib.ListN.{length}
 use Rattle.figures.specs.declared.Period.{Period}
 use Rattle.figures.specs.declared.Check.the-variants.{Accepted}
 use Rattle.study.specs.declared.Study.{Study}
-use Rattle.study.specs.declared.request.Answer.{Answer}
+use Rattle.request.specs.declared.Answer.{Answer}
 use Rattle.study.specs.Add.{Limits}
 use Rattle.study.specs.Run.{accepted, LimitsFit}
-use Rattle.study.specs.Request.{cellsNeeded, Answered, resultIn}
-use Rattle.study.specs.Accuracy.{hasTrains, AccurateToBare, demanded}
-use Rattle.study.proofs.Demand3.{levels-accurate}
+use Rattle.request.specs.Request.{cellsNeeded, Answered, resultIn}
+use Rattle.request.specs.Accuracy.{hasTrains, AccurateToBare, demanded}
+use Rattle.request.proofs.Demand3.{levels-accurate}
 use Rattle.text.specs.Text.{readText}
 use Rattle.text.specs.Additions.{additionsOf}
 use Rattle.text.proofs.Runs.{accepted-text-is-run}

@@ -1,7 +1,12 @@
 pub mod Places
+pub mod Steps
 pub mod Rest
+pub mod Openings
 pub mod Runs
 pub mod Refusals
 pub mod Counted
 pub mod Accuracy
+pub mod Worked
+pub mod Reached
+pub mod Levels
 pub mod TextAnswers

@@ -11,20 +11,12 @@ use borrow.Author.Tests.{lt-ltb, le-ltb}
 use Rattle.figures.specs.declared.Refusal.{Refusal}
 use Rattle.figures.specs.declared.Refusal.the-variants as R
 use Rattle.figures.specs.declared.Check.{Check}
-use Rattle.figures.specs.declared.Check.the-variants.{Accepted, Refused}
-use Rattle.figures.specs.declared.Segment.{Segment}
-use Rattle.figures.specs.declared.Train.{Train}
+use Rattle.figures.specs.declared.Check.the-variants.{Refused}
+use Rattle.study.specs.declared.Study.{Study}
 use Rattle.study.specs.Add.{ours}
 use Rattle.lines.specs.Bytes.{until, split}
-use Rattle.lines.specs.Lines.{segmentOf, trainOf}
-use Rattle.text.specs.Text.{ended, unended, lastLine, linesIn, linesOf}
-use Rattle.text.specs.Private.{Found, firstAnswer, segmentLineAnswer, trainLineAnswer, SegmentAt, TrainAt, faultOf}
-use Rattle.lines.specs.declared.fields.SegmentLine.the-variants as S
-use Rattle.lines.specs.declared.fields.TrainLine.the-variants as T
-use Rattle.text.specs.declared.SegmentStep.{SegmentStep}
-use Rattle.text.specs.declared.SegmentStep.the-variants as SS
-use Rattle.text.specs.declared.TrainStep.{TrainStep}
-use Rattle.text.specs.declared.TrainStep.the-variants as TS
+use Rattle.text.specs.Text.{Line, ended, unended, lastLine, linesIn, linesOf, Kind, addLine}
+use Rattle.text.specs.Private.{Found, firstAdds, faultOf}
 use Rattle.lines.proofs.Bytes.{split-first, until-within}
 use Rattle.lines.proofs.Cases.{lt-or-ge}
 
@@ -68,7 +60,7 @@ pub record Standing (text : List ℕ) (at : ℕ) (line : List ℕ) : Type 0 wher
   pub is : line ≡ until 10 (drop at text)
   pub feed : at + length line < length text
 
-line-stands : {text : List ℕ} {at : ℕ} {line : List ℕ} → Standing text at line → linesOf (drop at text) ≡ ended line ∷ linesOf (drop (at + length line + 1) text)
+pub line-stands : {text : List ℕ} {at : ℕ} {line : List ℕ} → Standing text at line → linesOf (drop at text) ≡ ended line ∷ linesOf (drop (at + length line + 1) text)
 line-stands {text} {at} {line} w = go (view text at)
   where
     go : View text at → linesOf (drop at text) ≡ ended line ∷ linesOf (drop (at + length line + 1) text)
@@ -77,24 +69,26 @@ line-stands {text} {at} {line} w = go (view text at)
     go (at-line m e) = rw (w .is) e
 
 -- what the line at a position answers, on each way
-module _ {A : Type 0} (read : List ℕ → A) (answers : A → Check) where
+module _ (kind : Kind) (st : Study) where
+  -- no line feed ends it
   pub unended-refused : (text : List ℕ) (at : ℕ) {line : List ℕ} → line ≡ until 10 (drop at text) → length text ≤ at + length line → {f : Refusal} → f ≡ faultOf (linesOf (drop at text))
-      → firstAnswer read answers (linesOf (drop at text)) ≡ Refused f
-  unfolding firstAnswer
+      → firstAdds kind st (linesOf (drop at text)) ≡ Refused f
+  unfolding firstAdds addLine
   unended-refused text at q h e = rw e (go (view text at))
     where
-      go : View text at → firstAnswer read answers (linesOf (drop at text)) ≡ Refused (faultOf (linesOf (drop at text)))
+      go : View text at → firstAdds kind st (linesOf (drop at text)) ≡ Refused (faultOf (linesOf (drop at text)))
       go (at-end m l) = rw l
       go (at-torn m z l) = rw l
       go (at-line m l) = absurd (omega (arith, ap length q))
 
-  module _ {text : List ℕ} {at : ℕ} {line : List ℕ} (w : Standing text at line) {r fields : A} (e : r ≡ read line) (z : r ≡ fields) where
-    pub fields-refused : {f : Refusal} → answers fields ≡ Refused f → firstAnswer read answers (linesOf (drop at text)) ≡ Refused f
-    unfolding firstAnswer
-    fields-refused n = rw (line-stands w, ← e, z) n
+  -- what its addition answers
+  pub first-answer : (xs : List Line) {line : Line} {rest : List Line} {c : Check} → xs ≡ line ∷ rest → addLine ours kind st line .check ≡ c → firstAdds kind st xs ≡ c
+  unfolding firstAdds
+  first-answer xs l e = rw l e
 
-    pub fields-found : answers fields ≡ Accepted → Found read answers fields text at (at + length line + 1)
-    fields-found n = record { line = line; is = sym z ∙ e; accepted = n; ahead = omega arith; within = omega arith; lines = line-stands w }
+-- the fields that were read there
+pub fields-found : {A : Type 0} (read : List ℕ → A) {text : List ℕ} {at : ℕ} {line : List ℕ} → Standing text at line → {r fields : A} → r ≡ read line → r ≡ fields → Found read fields text at (at + length line + 1)
+fields-found read {line = line} w e z = record { line = line; is = sym z ∙ e; ahead = omega arith; within = omega arith; lines = line-stands w }
 
 -- why no line could be read there
 module _ (text : List ℕ) (at : ℕ) where
@@ -113,11 +107,3 @@ module _ (text : List ℕ) (at : ℕ) where
       go (at-end m e) = absurd (omega arith)
       go (at-torn m z e) = rw e
       go (at-line m e) = rw e
-
--- the fields that were taken there
-module _ {text : List ℕ} {at next : ℕ} (count : ℕ) where
-  pub segment-found : {r : SegmentStep} {s : Segment} → r ≡ SS.Taken s next → SegmentAt count text at r → Found segmentOf (segmentLineAnswer ours count) (S.Fields s) text at next
-  segment-found e w = rw e at w
-
-  pub train-found : (total : ℕ) {r : TrainStep} {t : Train} → r ≡ TS.Taken t next → TrainAt count total text at r → Found trainOf (trainLineAnswer ours count total) (T.Fields t) text at next
-  train-found total e w = rw e at w

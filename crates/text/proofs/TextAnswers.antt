@@ -1,75 +1,43 @@
--- From a text to its levels: a text's refusal comes before the request's, and then no cell is touched.
+-- From a text to its levels: a text's refusal leaves the cells, and the study of an accepted one is asked for its levels.
 -- Assumes nothing.
-use mathlib.Core.Path.{_≡_, refl, _∙_, ap, ap₂, subst}
+use mathlib.Core.Path.{_≡_, refl, sym, ap, _∙_, subst}
 use mathlib.Core.List.{List}
-use Prim.Native.Nat.{ℕ}
+use Prim.Native.Nat.{ℕ, zero-le}
 use lib.IntN.{ℤ}
 use lib.ListN.{length}
 use Rattle.figures.specs.declared.Refusal.{Refusal}
-use Rattle.figures.specs.declared.Refusal.the-variants.{NoEntry}
-use Rattle.figures.specs.declared.Check.{Check}
-use Rattle.figures.specs.declared.Check.the-variants.{Accepted, Refused}
-use Rattle.figures.specs.Refusal.{firstRefused}
 use Rattle.study.specs.declared.Study.{Study}
-use Rattle.study.specs.declared.request.Answer.{Answer}
 use Rattle.study.specs.Plan.{planOf, emptyStudy}
 use Rattle.study.specs.Add.{ours}
-use Rattle.study.specs.Run.{run, runFrom, listed}
-use Rattle.study.specs.Request.{cellsBy, answerBy, refusedBy, Answered}
-use Rattle.study.proofs.Answers.{no-entries}
-use Rattle.study.proofs.Demand3.{ours-fit}
+use Rattle.request.specs.declared.Answer.{Answer}
+use Rattle.request.specs.Levels.{ownMarks, MarksAllowed}
+use Rattle.request.specs.Request.{refusedBy}
+use Rattle.request.proofs.Results.{own-allowed}
 use Rattle.text.specs.declared.Reading.{Reading}
 use Rattle.text.specs.declared.TextAnswer.{TextAnswer}
-use Rattle.text.specs.Text.{readText}
-use Rattle.text.specs.Answer.{answerWith, cellsWith, textAnswer, TextAnswered}
-use Rattle.text.proofs.Runs.{refused-text-is-empty, text-listed}
+use Rattle.text.specs.Text.{readText, refusedAt, acceptedWith}
+use Rattle.text.specs.Answer.{atLine, answerWith, cellsWith, textAnswer, TextAnswered}
+use Rattle.text.specs.Private.{Answers, refusedAnswer, PlanAnswered}
 
--- the request over the empty study: 23, with the cells as they were
-record Idle (before after : List ℤ) (answer : Answer) : Type 0 where
-  cells : after ≡ before
-  refused : answer ≡ refusedBy NoEntry
+empty-allowed : MarksAllowed (planOf emptyStudy) (ownMarks (planOf emptyStudy))
+unfolding planOf emptyStudy
+empty-allowed = own-allowed (planOf emptyStudy) zero-le
 
-idle : {before after : List ℤ} {answer : Answer} → Answered emptyStudy before after answer → Idle before after answer
-unfolding cellsBy answerBy planOf emptyStudy
-idle {before} q =
-    let none = no-entries (planOf emptyStudy) (length before) refl in
-    record { cells = q .by .cells ∙ rw none; refused = q .by .answer ∙ rw none }
+-- a refusal leaves the cells as they were
+pub refused-answers : {reading : Reading} {f : Refusal} {line : ℕ} {before after : List ℤ} {r : TextAnswer} → after ≡ before → reading ≡ refusedAt f line → r ≡ refusedAnswer f line → Answers reading before after r
+unfolding refusedAnswer answerWith cellsWith refusedBy
+refused-answers same e a = rw e (record { answer = a; cells = same; allowed = empty-allowed })
 
--- as the code makes it, with the text's refusal first
-abbrev judged : Reading → Answer → TextAnswer
-judged reading answer = record { check = firstRefused (reading .check) (answer .check); line = reading .line; day = answer .day; night = answer .night }
+-- an accepted reading's plan is asked for its levels
+pub accepted-answers : {reading : Reading} {st : Study} {before cells after : List ℤ} {a : Answer} {r : TextAnswer} → cells ≡ before → reading ≡ acceptedWith st → PlanAnswered (planOf st) cells after a → r ≡ atLine 0 a → Answers reading before after r
+unfolding answerWith cellsWith
+accepted-answers {st = st} {before = before} {after = after} {a = a} same e w g =
+    let q : PlanAnswered (planOf st) before after a = rw same at w in
+    rw e (record { answer = g ∙ ap (atLine 0) (q .by .answer); cells = q .by .cells; allowed = q .allowed })
 
-module _ (text : List ℕ) {before after : List ℤ} {answer : Answer} (q : Answered (readText ours text .study) before after answer) where
-  abbrev reading : Reading
-  reading = readText ours text
-
-  accepted : reading .check ≡ Accepted → TextAnswered text before after (judged reading answer)
-  unfolding textAnswer answerWith cellsWith firstRefused
-  accepted a = record { answer = rw (a, q .by .answer) refl; cells = rw a (q .by .cells); allowed = q .allowed }
-
-  refused : {why : Refusal} → reading .check ≡ Refused why → TextAnswered text before after (judged reading answer)
-  unfolding textAnswer answerWith cellsWith firstRefused refusedBy
-  refused {why} f =
-      let still = idle (subst (λ (st : Study). Answered st before after answer) (refused-text-is-empty ours text why f) q) in
-      record { answer = rw (f, still .refused) refl; cells = rw f (still .cells); allowed = q .allowed }
-
-  pub text-answered : {r : TextAnswer} → r ≡ judged reading answer → TextAnswered text before after r
-  text-answered e = rw e (go (reading .check) refl)
-    where
-      go : (c : Check) → reading .check ≡ c → TextAnswered text before after (judged reading answer)
-      go Accepted a = accepted a
-      go (Refused why) f = refused f
-
--- ---- as the functions return them, from what the lines hold
-
-module _ (text : List ℕ) {x : Reading} (e : x ≡ readText ours text) where
-  pub text-read : {st empty : Study} → empty ≡ emptyStudy → st ≡ runFrom ours empty (listed (planOf (x .study))) → record { check = x .check; line = x .line; study = st } ≡ readText ours text
-  unfolding run
-  text-read {st} z f =
-      let same : st ≡ readText ours text .study = f ∙ ap (λ (s : Study). runFrom ours s (listed (planOf (x .study)))) z ∙ ap (λ (y : Reading). run ours (listed (planOf (y .study)))) e ∙ text-listed ours ours-fit text in
-      ap₂ (λ (y : Reading) (s : Study). record { check = y .check; line = y .line; study = s }) e same
-
-  pub levels-read : {before after : List ℤ} {answer : Answer} {check : Check} → Answered (x .study) before after answer → check ≡ firstRefused (x .check) (answer .check)
-      → TextAnswered text before after (record { check = check; line = x .line; day = answer .day; night = answer .night })
-  levels-read {before} {after} {answer} q k =
-      text-answered text (subst (λ (y : Reading). Answered (y .study) before after answer) e q) (rw k (ap (λ (y : Reading). judged y answer) e))
+-- the whole text's
+pub text-answered : (text : List ℕ) {reading : Reading} {before after : List ℤ} {r : TextAnswer} → readText ours text ≡ reading → Answers reading before after r → TextAnswered text before after r
+unfolding textAnswer
+text-answered text {before = before} {after = after} {r = r} e q =
+    let a : Answers (readText ours text) before after r = subst (λ (x : Reading). Answers x before after r) (sym e) q in
+    record { answer = a .answer; cells = a .cells; allowed = a .allowed }

@@ -7,11 +7,11 @@ use lib.IntN.{ℤ}
 use lib.ListN.{length}
 use Rattle.figures.specs.declared.Check.{Check}
 use Rattle.figures.specs.declared.Check.the-variants.{Accepted, Refused}
-use Rattle.study.specs.declared.request.Answer.{Answer}
+use Rattle.request.specs.declared.Answer.{Answer}
 use Rattle.study.specs.Plan.{Plan, planOf}
 use Rattle.study.specs.Add.{ours}
-use Rattle.study.specs.Levels.{ownMarks, MarksAllowed}
-use Rattle.study.specs.Request.{levelsCheck, answerBy, cellsBy, silentResult}
+use Rattle.request.specs.Levels.{ownMarks, MarksAllowed}
+use Rattle.request.specs.Request.{levelsCheck, answerBy, cellsBy, silentResult}
 use Rattle.text.specs.declared.TextAnswer.{TextAnswer}
 use Rattle.text.specs.Text.{readText}
 

@@ -1,0 +1,13 @@
+pub mod EntryLevels
+pub mod Found
+pub mod Cells
+pub mod Verdicts
+pub mod Hearing
+pub mod Totals
+pub mod Counts
+pub mod Results
+pub mod Answers
+pub mod Studies
+pub mod Entries
+pub mod Demand3
+pub mod Readings

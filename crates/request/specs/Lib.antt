@@ -1,0 +1,6 @@
+pub mod Entry
+pub mod Levels
+pub mod Request
+pub mod Accuracy
+pub mod Readings
+pub mod Private

@@ -1,0 +1,24 @@
+-- `text::add_train_line` meets its contract: what the fields add, or why there are none.
+-- Assumes nothing.
+use borrow.Author.Needs.{needs}
+use Rattle.text.proofs.Steps.{train-line, fault-line, train-read, train-unread}
+use Rattle.text.proofs.add_train_line.Statement.{statement}
+use Rattle.text.proofs.add_train_line.Tie as tie
+
+returns : tie.Need-returns
+returns c =
+    let added = c .before in
+    let fields = added .before .before in
+    let read = fields .before .before in
+    train-line (train-read (fields .train .given .1) (read .train-fields .ensures)) (read .before .before .args .study) (added .add-train .ensures)
+
+returns-2 : tie.Need-returns-2
+returns-2 c =
+    let refusal = c .before in
+    let read = refusal .before .before in
+    fault-line (train-unread (read .before .before .args .text .now) (read .before .before .args .at) (refusal .refusal .given .1) (read .train-fields .ensures)) (read .before .before .args .study)
+
+pub add-train-line-spec : {M : Type 1} → statement M
+add-train-line-spec =
+    tie.close
+    (tie.spec (λ c κs. c .before .pre) (λ c. search needs) (λ c κs. search needs) (λ c. search needs) returns returns-2)
