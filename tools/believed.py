@@ -31,6 +31,12 @@ ROOTS = {
     "Readings": "the starred readings",
     "total-rises": "a total never falls where levels rise",
     "cells-rise": "the same over working cells",
+    # the formulas are believed by these: contracts state fences and tenths by whole numbers alone, and these say whose they are
+    "segment-fences": "each fence of a segment's steps is that of the step's exact value",
+    "train-fences": "the same of a train's steps",
+    "nearest-exact": "the nearest tenth of a fence is that of the exact value",
+    "ground-settled": "an allowed close mark gives ground the louder neighbour or the nearest",
+    "total-settled": "the same of a total",
 }
 
 MODULE = re.compile(r"Rattle·(?P<crate>\w+)(?:·specs|·proofs)?\.(?P<folder>specs|proofs)\.(?P<module>.+)")
@@ -198,6 +204,8 @@ class Tree:
             if len(stated) != 1:
                 sys.exit(f"there are {len(stated)} definitions of {root}, a top theorem")
             law = stated[0].folder == "proofs"
+            if law and stated[0].text.startswith(" "):  # what its module is given would not be seen
+                sys.exit(f"{root}, a top theorem, stands in a module with premises of its own")
             found |= signature_cites(stated[0], names[stated[0].path]) if law else {stated[0]}
         return found
 

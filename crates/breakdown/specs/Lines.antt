@@ -81,8 +81,8 @@ levelParts day night =
     levelPart (ascii " level by day ") (cellLevel day) ++ (levelPart (ascii " level by night ") (cellLevel night) ++ (ascii "\n" ∷ []))
 
 -- the number of the segment at a place; places count from 0, and a study has 24
-unfoldable pub numberAt : ℕ → ℕ
-numberAt k = cond (ltb k 24) (k + 1) 24
+unfoldable pub segmentNumber : ℕ → ℕ
+segmentNumber k = cond (ltb k 24) (k + 1) 24
 
 -- the line of an entry, by its number in the study and its segment's
 unfoldable pub entryParts : ℕ → ℕ → Train → ℤ → ℤ → List (List ℕ)

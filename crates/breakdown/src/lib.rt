@@ -7,7 +7,7 @@ ghost use Rattle.writing.specs.Pages.{Put, PutEach};
 ghost use Rattle.request.specs.Levels.{MarksAllowed, ownMarks};
 ghost use Rattle.text.specs.Answer.{planIn};
 ghost use Rattle.report.specs.Report.{reportOf};
-ghost use Rattle.breakdown.specs.Lines.{figurePart, levelPart, cellLevel, pathPart, closePart, stepParts, readingParts, reflectionParts, numberPart, segmentParts, trainParts, levelParts, numberAt, entryParts};
+ghost use Rattle.breakdown.specs.Lines.{figurePart, levelPart, cellLevel, pathPart, closePart, stepParts, readingParts, reflectionParts, numberPart, segmentParts, trainParts, levelParts, segmentNumber, entryParts};
 ghost use Rattle.breakdown.specs.Breakdown.{segmentsParts, entriesParts, studyParts, BrokenDown};
 use decibel::Level;
 use emission::TrainBreakdown;
@@ -188,7 +188,7 @@ fn put_segments(study: Study, out: &mut [u8], start: usize) -> usize
 
 // The number of the segment at a place; places count from 0, and there are no more than a study holds.
 fn number_of(k: usize) -> usize
-    ensures { λ r. ⌜ r ≡ numberAt k ⌝ }
+    ensures { λ r. ⌜ r ≡ segmentNumber k ⌝ }
 {
     if k < MOST_SEGMENTS {
         return k + 1;

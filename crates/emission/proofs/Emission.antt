@@ -7,10 +7,10 @@ use lib.Dec.{lit<, lit≤}
 use lib.IntN.{ℤ, pos, _+ℤ_}
 use mir.Syntax.{w32}
 use mir.Val.{SFits}
-use Rattle.decibel.specs.Round.{micro, nearest, Near}
+use Rattle.decibel.specs.Round.{micro, nearest}
 use Rattle.decibel.specs.declared.Level.{Level}
 use Rattle.decibel.specs.declared.Level.the-variants.{Silent, Figure}
-use Rattle.decibel.proofs.Round.{near-nearest, near-exact, near-add}
+use Rattle.decibel.proofs.Round.{Near, near-nearest, near-exact, near-add}
 use Rattle.figures.specs.declared.Train.{Train}
 use Rattle.figures.specs.declared.Period.{Period}
 use Rattle.figures.specs.declared.Period.the-variants.{Day, Night}
@@ -18,7 +18,8 @@ use Rattle.figures.specs.declared.Refusal.{Refusal}
 use Rattle.figures.specs.declared.Check.the-variants.{Accepted, Refused}
 use Rattle.figures.specs.Refusal.{isAccepted}
 use Rattle.figures.specs.Rules.{trainCheck}
-use Rattle.figures.specs.Bounds.{Below, Signed, Exactly, TrainRanged}
+use Rattle.figures.specs.Bounds.{Below}
+use Rattle.figures.specs.Private.{Signed, Exactly, TrainRanged}
 use Rattle.figures.proofs.Signs.{read, below-more, natural-below, Sum, summand, added, summed, exactly-read}
 use Rattle.figures.proofs.Lies.{lies-add, lies-within, lies-micro}
 use Rattle.emission.specs.declared.TrainBreakdown.{TrainBreakdown}
@@ -27,7 +28,8 @@ use Rattle.emission.specs.Speed.{speedFence}
 use Rattle.emission.specs.Vehicles.{vehiclesFence}
 use Rattle.emission.specs.Trains.{trainsIn, sounds, trainsFence, trainsLevel}
 use Rattle.emission.specs.Emission.{raised, trainPartsOf, noTrainParts, trainBreakdownOf, trainsPart, emissionOf, trainFence}
-use Rattle.emission.specs.Results.{SmallLevel, Runs, TrainParted, Emits}
+use Rattle.emission.specs.Results.{SmallLevel, TrainParted, Emits}
+use Rattle.emission.specs.Private.{Runs}
 use Rattle.emission.proofs.RollingFigures.{rolling-lies}
 use Rattle.emission.proofs.SpeedStep.{speed-lies}
 use Rattle.emission.proofs.VehiclesStep.{vehicles-lies}

@@ -13,7 +13,8 @@ use Rattle.decibel.proofs.Tests.{everyEntry}
 use Rattle.decibel.proofs.Table.{at-every}
 use Rattle.figures.specs.declared.Train.{Train}
 use Rattle.figures.specs.Rules.{mostRow}
-use Rattle.figures.specs.Bounds.{Below, Signed, Exactly, TrainRanged}
+use Rattle.figures.specs.Bounds.{Below}
+use Rattle.figures.specs.Private.{Signed, Exactly, TrainRanged}
 use Rattle.emission.specs.Rolling.{rollings, rollingTenths}
 
 -- one test of the whole table

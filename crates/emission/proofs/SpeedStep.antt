@@ -17,7 +17,7 @@ use Rattle.decibel.proofs.Exact.{fence-is}
 use Rattle.decibel.proofs.Fences.{fence-square, fence-add}
 use Rattle.figures.specs.declared.Train.{Train}
 use Rattle.figures.specs.Rules.{leastSpeed, mostSpeed}
-use Rattle.figures.specs.Bounds.{Signed, Exactly, TrainRanged}
+use Rattle.figures.specs.Private.{Signed, Exactly, TrainRanged}
 use Rattle.figures.proofs.Signs.{read, below-more, natural-below, summand, summed}
 use Rattle.figures.proofs.Tenths.{tenth-below, tenths-of}
 use Rattle.figures.proofs.Lies.{lies-fence}

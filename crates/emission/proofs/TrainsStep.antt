@@ -21,12 +21,13 @@ use Rattle.figures.specs.declared.Train.{Train}
 use Rattle.figures.specs.declared.Period.{Period}
 use Rattle.figures.specs.declared.Period.the-variants.{Day, Night}
 use Rattle.figures.specs.Rules.{mostTrains}
-use Rattle.figures.specs.Bounds.{Signed, Exactly, TrainRanged}
+use Rattle.figures.specs.Private.{Signed, Exactly, TrainRanged}
 use Rattle.figures.proofs.Signs.{read, below-more, below-back, natural-below, less, less-fits, exactly-read}
 use Rattle.figures.proofs.Tenths.{tenth-below, tenths-of}
 use Rattle.figures.proofs.Lies.{lies-within, lies-less, lies-fence, fence-less}
 use Rattle.emission.specs.Trains.{trainsIn, sounds, hoursTenths, trainsFence, trainsLevel}
-use Rattle.emission.specs.Results.{SmallLevel, Runs}
+use Rattle.emission.specs.Results.{SmallLevel}
+use Rattle.emission.specs.Private.{Runs}
 
 trains-most : (p : Period) (t : Train) → TrainRanged t → trainsIn p t ≤ mostTrains
 unfolding trainsIn

@@ -11,7 +11,7 @@ use Rattle.decibel.specs.Lookup.{tenLog, fenceAt, lowest, highest, tenthsAt, Te
 use Rattle.decibel.specs.Round.{nearest, IsFence}
 use Rattle.decibel.proofs.Exact.{fence-is}
 use Rattle.figures.specs.declared.Train.{Train}
-use Rattle.figures.specs.Bounds.{Signed, Exactly, TrainRanged}
+use Rattle.figures.specs.Private.{Signed, Exactly, TrainRanged}
 use Rattle.figures.proofs.Signs.{read, exactly-read, exactly-by}
 use Rattle.figures.proofs.Tenths.{tenths-of}
 use Rattle.figures.proofs.Lies.{lies-fence}

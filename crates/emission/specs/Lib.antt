@@ -5,3 +5,4 @@ pub mod Trains
 pub mod Emission
 pub mod Fences
 pub mod Results
+pub mod Private

@@ -11,11 +11,6 @@ unfoldable pub SmallLevel : ℕ → Level → Type 0
 SmallLevel n Silent = Unit {0}
 SmallLevel n (Figure r) = Below n r
 
--- the trains step
-pub record Runs (v r : Level) : Type 0 where
-  pub is : r ≡ v
-  pub small : SmallLevel 2000 r
-
 -- a train's parts
 pub record TrainParted (v r : TrainBreakdown) : Type 0 where
   pub is : r ≡ v

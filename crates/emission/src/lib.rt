@@ -4,7 +4,8 @@ mod speed;
 mod trains;
 mod vehicles;
 
-ghost use Rattle.figures.specs.Bounds.{Below, TrainRanged};
+ghost use Rattle.figures.specs.Bounds.{Below};
+ghost use Rattle.figures.specs.Private.{TrainRanged};
 ghost use Rattle.figures.specs.declared.Period.the-variants.{Day, Night};
 ghost use Rattle.emission.specs.Emission.{raised, trainPartsOf, trainBreakdownOf, emissionOf};
 ghost use Rattle.emission.specs.Results.{SmallLevel, TrainParted, Emits};

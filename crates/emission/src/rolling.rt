@@ -3,7 +3,7 @@ ghost use mathlib.Core.Path.{_≡_};
 ghost use Prim.Native.Nat.{_-_, _≤_};
 ghost use lib.IntN.{pos};
 ghost use lib.ListN.{getD};
-ghost use Rattle.figures.specs.Bounds.{Exactly, TrainRanged};
+ghost use Rattle.figures.specs.Private.{Exactly, TrainRanged};
 ghost use Rattle.emission.specs.Rolling.{rollings, rollingTenths};
 use figures::Train;
 use figures::natural;

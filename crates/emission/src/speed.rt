@@ -1,6 +1,6 @@
 // The speed step: 20 log V is 10 log of the speed's square.
 ghost use Rattle.decibel.specs.Round.{nearest};
-ghost use Rattle.figures.specs.Bounds.{Exactly, TrainRanged};
+ghost use Rattle.figures.specs.Private.{Exactly, TrainRanged};
 ghost use Rattle.emission.specs.Speed.{speedFence};
 use figures::Train;
 use figures::natural;

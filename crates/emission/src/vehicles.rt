@@ -1,6 +1,6 @@
 // The vehicles step.
 ghost use Rattle.decibel.specs.Round.{nearest};
-ghost use Rattle.figures.specs.Bounds.{Exactly, TrainRanged};
+ghost use Rattle.figures.specs.Private.{Exactly, TrainRanged};
 ghost use Rattle.emission.specs.Vehicles.{vehiclesFence};
 use figures::Train;
 use figures::natural;

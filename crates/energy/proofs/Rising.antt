@@ -22,12 +22,12 @@ use Rattle.energy.specs.Energy.{bareAt}
 use Rattle.energy.specs.Total.{energies, totalBy, heard}
 use Rattle.energy.specs.Mark.{heightOf, loudestOf, weightOf, weighed, raisedUnit, beginOf, passedOf, totalMark, totalOf}
 use Rattle.energy.specs.Private.{figureAt}
-use Rattle.energy.specs.Rising.{Rises, end, more, then, CellsRise, last, cell, LevelAtMost, silent-lowest, figure-at-most}
+use Rattle.energy.specs.Rising.{Rises, end, more, then, CellsRise, last, cell, LevelAtMost, silent-lowest, figure-at-most, LevelsKept, next}
 use Rattle.energy.proofs.Order.{less, not-less}
 use Rattle.energy.proofs.Ratio.{Upper, Lower, upper-mul, lower-mul, crossed}
 use Rattle.energy.proofs.Weighing.{unit, weight-fits, weight-most, weight-upper, weight-lower}
 use Rattle.energy.proofs.Thresholds.{tenths-most, tenths-upper, tenths-lower, passed-fits}
-use Rattle.energy.proofs.Levels.{Kept, next, height-is, louder, loudest-above, loudest-some}
+use Rattle.energy.proofs.Levels.{height-is, louder, loudest-above, loudest-some}
 use Rattle.energy.proofs.Named.{total-figure}
 use Rattle.energy.proofs.Cells.{heard-kept, heard-few}
 
@@ -36,7 +36,7 @@ use Rattle.energy.proofs.Cells.{heard-kept, heard-few}
 height-rises : (x y : ℤ) → negsuc 1999 ≤ℤ x → x ≤ℤ y → heightOf x ≤ heightOf y
 height-rises x y low h = omega (arith, ints, height-is x low, height-is y (omega (arith, ints)))
 
-loudest-rises : {xs ys : List ℤ} → Kept xs → Rises xs ys → loudestOf xs ≤ loudestOf ys
+loudest-rises : {xs ys : List ℤ} → LevelsKept xs → Rises xs ys → loudestOf xs ≤ loudestOf ys
 unfolding loudestOf
 loudest-rises kept end = zero-le
 loudest-rises kept (more {y = y} {ys = ys} r) = le-trans (loudest-rises kept r) (loudest-above y ys .1)
@@ -73,7 +73,7 @@ weight-second j h = le-trans (weight-falls 1 j h) (le-of-pow-le {n = 100} (lit< 
     bound : (x y : ℕ) → x * 10 ^ 1 ≤ y * 10 ^ 1 → x ≤ y
     bound x y l = omega arith
 
-weighed-rises : (t : ℕ) {xs ys : List ℤ} → Kept xs → Rises xs ys → weighed t xs ≤ weighed t ys
+weighed-rises : (t : ℕ) {xs ys : List ℤ} → LevelsKept xs → Rises xs ys → weighed t xs ≤ weighed t ys
 unfolding weighed
 weighed-rises t kept end = zero-le
 weighed-rises t kept (more r) = omega (arith, weighed-rises t kept r)
@@ -130,7 +130,7 @@ module _ (d : ℕ) where
       omega (arith, tenths-scaled j, tenths-most (j + d) few, weight-most d, mul-le-mul-right (weightOf d) over)
 
 -- the level that is the new loudest brings more than a fiftieth of its weight
-weighed-gains : (t : ℕ) {xs ys : List ℤ} → Kept xs → Rises xs ys → loudestOf xs < t → loudestOf ys ≡ t → weighed t xs + unit ≤ weighed t ys + second
+weighed-gains : (t : ℕ) {xs ys : List ℤ} → LevelsKept xs → Rises xs ys → loudestOf xs < t → loudestOf ys ≡ t → weighed t xs + unit ≤ weighed t ys + second
 unfolding loudestOf weighed
 weighed-gains t kept end small e = absurd (omega arith)
 weighed-gains t kept (more {y = y} {ys = ys} r) small e =
@@ -147,7 +147,7 @@ weighed-gains t (next low high kept) (then {x = x} {y = y} {xs = xs} {ys = ys} h
     (loudest-one y ys)
 
 -- so every tie that the first sum has passed is passed by the second, counted from the new loudest
-passed-louder : (t d : ℕ) {xs ys : List ℤ} → 0 < d → Kept xs → length xs ≤ 96 → Rises xs ys → loudestOf xs ≡ t → loudestOf ys ≡ t + d → passedOf (weighed t xs) ≤ d + passedOf (weighed (t + d) ys)
+passed-louder : (t d : ℕ) {xs ys : List ℤ} → 0 < d → LevelsKept xs → length xs ≤ 96 → Rises xs ys → loudestOf xs ≡ t → loudestOf ys ≡ t + d → passedOf (weighed t xs) ≤ d + passedOf (weighed (t + d) ys)
 passed-louder t d {xs} {ys} some kept few r was is = go (decLe (passedOf w) d)
   where
     w : ℕ
@@ -179,7 +179,7 @@ rises-length (then h r) = omega (arith, rises-length r)
 abbrev figureOf : List ℤ → ℤ
 figureOf ls = byMark (totalMark ls) (bareAt (energies ls))
 
-module _ {xs ys : List ℤ} (kept-xs : Kept xs) (kept-ys : Kept ys) (some : 0 < loudestOf xs) (few : length ys ≤ 96) (r : Rises xs ys) where
+module _ {xs ys : List ℤ} (kept-xs : LevelsKept xs) (kept-ys : LevelsKept ys) (some : 0 < loudestOf xs) (few : length ys ≤ 96) (r : Rises xs ys) where
   abbrev t : ℕ
   t = loudestOf xs
 
@@ -216,7 +216,7 @@ module _ {xs ys : List ℤ} (kept-xs : Kept xs) (kept-ys : Kept ys) (some : 0 < 
 -- ---- totals
 
 -- the law
-pub total-rises : (xs ys : List ℤ) → Kept xs → Kept ys → length ys ≤ 96 → Rises xs ys → LevelAtMost (totalOf xs .level) (totalOf ys .level)
+pub total-rises : (xs ys : List ℤ) → LevelsKept xs → LevelsKept ys → length ys ≤ 96 → Rises xs ys → LevelAtMost (totalOf xs .level) (totalOf ys .level)
 unfolding totalOf totalBy
 total-rises [] ys kept-xs kept-ys few r = silent-lowest
 total-rises (x ∷ xs) [] kept-xs kept-ys few r = absurd (omega (arith, rises-length r))
@@ -231,7 +231,7 @@ at-place [] after x y h = then h (same after)
     same (l ∷ ls) = then (is-le l l (omega arith)) (same ls)
 at-place (a ∷ before) after x y h = then (is-le a a (omega arith)) (at-place before after x y h)
 
-pub one-rises : (before after : List ℤ) (x y : ℤ) → Kept (before ++ (x ∷ after)) → Kept (before ++ (y ∷ after)) → length (before ++ (y ∷ after)) ≤ 96 → x ≤ℤ y → LevelAtMost (totalOf (before ++ (x ∷ after)) .level) (totalOf (before ++ (y ∷ after)) .level)
+pub one-rises : (before after : List ℤ) (x y : ℤ) → LevelsKept (before ++ (x ∷ after)) → LevelsKept (before ++ (y ∷ after)) → length (before ++ (y ∷ after)) ≤ 96 → x ≤ℤ y → LevelAtMost (totalOf (before ++ (x ∷ after)) .level) (totalOf (before ++ (y ∷ after)) .level)
 one-rises before after x y kept-x kept-y few h = total-rises (before ++ (x ∷ after)) (before ++ (y ∷ after)) kept-x kept-y few (at-place before after x y h)
 
 -- ---- working cells

@@ -18,7 +18,7 @@ use Rattle.figures.specs.declared.Check.{Check}
 use Rattle.figures.specs.declared.Check.the-variants.{Accepted, Refused}
 use Rattle.figures.specs.Refusal.{unless, firstRefused}
 use Rattle.figures.specs.Rules.{leastDistance, mostDistance, lowestWindow, highestWindow, highestMean, leastGap, lowestTop, highestTop, mostSoft, leastView, widestAngle, mostChart, mostTrack, lowestBallast, mostRow, leastSpeed, mostSpeed, mostVehicles, mostTrains, within, distanceKept, heightsKept, softKept, anglesKept, unscreened, unscreenedKept, screenedKept, screenKept, rangesThen, rangeCheck, readingsKept, rowKept, speedKept, vehiclesKept, trainsKept, trainCheck}
-use Rattle.figures.specs.Bounds.{From, Signed, Ranged, ReadingsRanged, TrainRanged}
+use Rattle.figures.specs.Private.{From, Signed, Ranged, ReadingsRanged, TrainRanged}
 
 -- ---- tests that hold
 

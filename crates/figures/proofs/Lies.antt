@@ -7,11 +7,11 @@ use native.Mathlib.Omega.{arith}
 use lib.IntN.{ℤ, pos, negsuc, negℤ, _+ℤ_, _-ℤ_}
 use Rattle.decibel.specs.Ints.{up, dn}
 use Rattle.decibel.specs.Log.{fence}
-use Rattle.decibel.specs.Round.{micro, Near, IsFence}
+use Rattle.decibel.specs.Round.{micro, IsFence}
 use Rattle.decibel.proofs.Ints.{add-is, add-most, neg-is, le-is, is-le, from-parts, ints}
-use Rattle.decibel.proofs.Round.{micro-is}
+use Rattle.decibel.proofs.Round.{Near, micro-is}
 use Rattle.decibel.proofs.Fences.{fence-low, fence-high}
-use Rattle.figures.specs.Bounds.{From, Signed}
+use Rattle.figures.specs.Private.{From, Signed}
 
 -- ---- numbers from -l to u
 

@@ -15,7 +15,8 @@ use borrow.Author.Tests.{ltb-true}
 use Rattle.decibel.specs.Ints.{up, dn}
 use Rattle.decibel.proofs.Ints.{add-most, neg-is, mag-most, most-mag}
 use Rattle.decibel.proofs.Words.{back}
-use Rattle.figures.specs.Bounds.{Below, From, Signed, Exactly}
+use Rattle.figures.specs.Bounds.{Below}
+use Rattle.figures.specs.Private.{From, Signed, Exactly}
 use Rattle.figures.specs.Rules.{leastGap}
 
 -- ---- a signed figure as a natural number

@@ -11,7 +11,7 @@ use mir.Syntax.{w64}
 use mir.Val.{Fits}
 use Rattle.decibel.specs.Ints.{up, dn}
 use Rattle.figures.specs.Geometry.{squared, slant}
-use Rattle.figures.specs.Bounds.{Square}
+use Rattle.figures.specs.Private.{Square}
 use Rattle.figures.proofs.Signs.{abs-up, size}
 
 pub squared-is : (z : ℤ) → squared z ≡ (up z + dn z) * (up z + dn z)

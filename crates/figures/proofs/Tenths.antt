@@ -7,7 +7,8 @@ use lib.IntN.{ℤ}
 use Rattle.decibel.specs.Lookup.{Formula, fenceAt, lowest, highest, tenthsAt, Tenth}
 use Rattle.decibel.specs.Round.{nearest}
 use Rattle.decibel.proofs.Greatest.{clamp-same}
-use Rattle.figures.specs.Bounds.{Below, Exactly}
+use Rattle.figures.specs.Bounds.{Below}
+use Rattle.figures.specs.Private.{Exactly}
 use Rattle.figures.proofs.Signs.{below-more, below-mag}
 
 pub tenth-below : {v r : ℤ} → Tenth v r → Below 1001 r

@@ -5,7 +5,7 @@ ghost use mathlib.Core.Path.{_≡_};
 ghost use lib.IntN.{_*ℤ_};
 ghost use Rattle.decibel.specs.Ints.{up};
 ghost use Rattle.figures.specs.Geometry.{slant, inShadow};
-ghost use Rattle.figures.specs.Bounds.{Square};
+ghost use Rattle.figures.specs.Private.{Square};
 ghost use Rattle.figures.specs.Refusal.{numberOf, checkNumber, unless, firstRefused};
 ghost use Rattle.figures.specs.Rules.{within, unscreened};
 

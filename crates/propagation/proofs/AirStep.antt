@@ -19,7 +19,8 @@ use Rattle.decibel.proofs.Greatest.{root-low, root-high}
 use Rattle.decibel.proofs.Round.{tie-is, nearest-is, nearest-exact}
 use Rattle.figures.specs.declared.Segment.{Segment}
 use Rattle.figures.specs.Geometry.{squared, slant, slantSquare}
-use Rattle.figures.specs.Bounds.{Below, Signed, Exactly, Ranged}
+use Rattle.figures.specs.Bounds.{Below}
+use Rattle.figures.specs.Private.{Signed, Exactly, Ranged}
 use Rattle.figures.proofs.Signs.{read, cast-read, returned}
 use Rattle.figures.proofs.Squares.{squared-is}
 use Rattle.propagation.specs.Air.{rootUp, airFence, AirAtLeast}

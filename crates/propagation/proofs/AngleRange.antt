@@ -20,7 +20,7 @@ use Rattle.decibel.proofs.Greatest.{clamp-same}
 use Rattle.decibel.proofs.Fences.{fence-low, fence-high}
 use Rattle.decibel.proofs.Table.{both-left, both-right}
 use Rattle.figures.specs.declared.Segment.{Segment}
-use Rattle.figures.specs.Bounds.{Signed, Ranged}
+use Rattle.figures.specs.Private.{Signed, Ranged}
 use Rattle.propagation.specs.Angle.{yOf, angleFence}
 
 -- ---- a test of every number up to n

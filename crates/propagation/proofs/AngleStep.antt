@@ -21,7 +21,7 @@ use Rattle.decibel.proofs.Round.{tie-is, nearest-is, nearest-between}
 use Rattle.decibel.proofs.Exact.{fence-is}
 use Rattle.decibel.proofs.Fences.{fence-shift}
 use Rattle.figures.specs.declared.Segment.{Segment}
-use Rattle.figures.specs.Bounds.{Exactly, Ranged}
+use Rattle.figures.specs.Private.{Exactly, Ranged}
 use Rattle.figures.proofs.Signs.{read, below-more, read-up, less, less-fits}
 use Rattle.figures.proofs.Tenths.{tenth-below, tenths-of}
 use Rattle.figures.proofs.Lies.{fence-less}

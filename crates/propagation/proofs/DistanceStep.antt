@@ -14,7 +14,7 @@ use Rattle.decibel.proofs.Exact.{fence-is}
 use Rattle.figures.specs.declared.Segment.{Segment}
 use Rattle.figures.specs.Geometry.{slant, slantSquare}
 use Rattle.figures.specs.Rules.{leastDistance, mostDistance, highestWindow}
-use Rattle.figures.specs.Bounds.{Signed, Exactly, Ranged}
+use Rattle.figures.specs.Private.{Signed, Exactly, Ranged}
 use Rattle.figures.proofs.Signs.{read, below-back, from-below, signed-below, exactly-read, exactly-by}
 use Rattle.figures.proofs.Squares.{squared-is, slant-most}
 use Rattle.figures.proofs.Tenths.{tenths-of}

@@ -22,7 +22,7 @@ use Rattle.decibel.proofs.Exact.{fence-is, log-ordered}
 use Rattle.decibel.proofs.Attenuation.{scaledLog, negative-low, negative-high, negative-above}
 use Rattle.figures.specs.declared.Segment.{Segment}
 use Rattle.figures.specs.Rules.{unscreened}
-use Rattle.figures.specs.Bounds.{Ranged}
+use Rattle.figures.specs.Private.{Ranged}
 use Rattle.propagation.specs.Screen.{screenFence}
 use Rattle.propagation.specs.Ground.{groundFactor, grounded, groundFence, pathFence, isClose, GroundMarkBy, GroundMark, GroundSettledBy, GroundSettled, attenuation, groundMark}
 

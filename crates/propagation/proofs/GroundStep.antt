@@ -20,7 +20,8 @@ use Rattle.decibel.proofs.Greatest.{clamp-within}
 use Rattle.decibel.proofs.Round.{unmarked-nearest}
 use Rattle.figures.specs.declared.Segment.{Segment}
 use Rattle.figures.specs.Rules.{unscreened}
-use Rattle.figures.specs.Bounds.{Below, Signed, Exactly, Ranged}
+use Rattle.figures.specs.Bounds.{Below}
+use Rattle.figures.specs.Private.{Signed, Exactly, Ranged}
 use Rattle.figures.proofs.Signs.{read, below-more, below-back, natural-below, cast-read, read-up, returned, exactly-read}
 use Rattle.figures.proofs.Lies.{lies-within, lies-fence}
 use Rattle.propagation.specs.Screen.{screenFence}

@@ -14,7 +14,7 @@ use Rattle.decibel.specs.Round.{nearest, IsFence, IsNearest}
 use Rattle.decibel.proofs.Ints.{mul-is, le-is, ints}
 use Rattle.decibel.proofs.Round.{nearest-exact}
 use Rattle.figures.specs.declared.Segment.{Segment}
-use Rattle.figures.specs.Bounds.{Signed, Exactly, Ranged, ReadingsRanged}
+use Rattle.figures.specs.Private.{Signed, Exactly, Ranged, ReadingsRanged}
 use Rattle.figures.proofs.Signs.{read, cast-read, natural-below, read-up}
 use Rattle.propagation.specs.Opposite.{oppositeFence, OppositeAtLeast}
 

@@ -20,7 +20,8 @@ use Rattle.decibel.proofs.Greatest.{root-low}
 use Rattle.figures.specs.declared.Segment.{Segment}
 use Rattle.figures.specs.Geometry.{slant, slantSquare, inShadow}
 use Rattle.figures.specs.Rules.{unscreened, mostDistance}
-use Rattle.figures.specs.Bounds.{Below, From, Signed, Exactly, Ranged}
+use Rattle.figures.specs.Bounds.{Below}
+use Rattle.figures.specs.Private.{From, Signed, Exactly, Ranged}
 use Rattle.figures.proofs.Signs.{read, below-back, from-below, signed-below, natural-below, exactly-read, exactly-by}
 use Rattle.figures.proofs.Squares.{slant-most}
 use Rattle.figures.proofs.Tenths.{tenths-of}

@@ -10,15 +10,16 @@ use lib.IntN.{ℤ, pos, negsuc, _+ℤ_}
 use mir.Syntax.{w16, w32}
 use mir.Val.{SFits, toZ, ofZ}
 use mir.Facts.{toZ-ofZ}
-use Rattle.decibel.specs.Round.{micro, nearest, Near}
-use Rattle.decibel.proofs.Round.{near-nearest, near-mark, near-exact, near-add}
+use Rattle.decibel.specs.Round.{micro, nearest}
+use Rattle.decibel.proofs.Round.{Near, near-nearest, near-mark, near-exact, near-add}
 use Rattle.figures.specs.declared.Segment.{Segment}
 use Rattle.figures.specs.declared.Refusal.{Refusal}
 use Rattle.figures.specs.declared.Check.{Check}
 use Rattle.figures.specs.declared.Check.the-variants.{Accepted, Refused}
 use Rattle.figures.specs.Refusal.{isAccepted}
 use Rattle.figures.specs.Rules.{within}
-use Rattle.figures.specs.Bounds.{Below, Signed, Exactly}
+use Rattle.figures.specs.Bounds.{Below}
+use Rattle.figures.specs.Private.{Signed, Exactly}
 use Rattle.figures.proofs.Signs.{read, below-more, below-back, natural-below, from-below, signed-below, returned, exactly-read, Sum, summand, added, summed}
 use Rattle.figures.proofs.Lies.{lies-add, lies-within, lies-from, lies-micro, near-lies}
 use Rattle.propagation.specs.declared.SegmentBreakdown.{SegmentBreakdown}
@@ -33,7 +34,7 @@ use Rattle.propagation.specs.Check.{segmentCheck}
 use Rattle.propagation.specs.Ground.{pathFence, groundMark, SegmentMark, SegmentMarkBy}
 use Rattle.propagation.specs.Propagation.{facadeTenths, segmentPartsBy, noSegmentParts, segmentBreakdownBy, segmentBreakdownOf, addedUp, propagationOf, noPropagation, segmentFence, refusalJudgement, judgementOf}
 use Rattle.propagation.specs.Results.{PartsBelow, SegmentParted, JudgementAllowed}
-use Rattle.propagation.specs.Private.{Ranges, PathTenths, Added, sumOf}
+use Rattle.propagation.specs.Private.{Ranges, PathTenths, FourAdded, sumOf}
 use Rattle.propagation.proofs.Chain.{ranges}
 use Rattle.propagation.proofs.DistanceStep.{distance-lies}
 use Rattle.propagation.proofs.AirStep.{air-lies}
@@ -153,20 +154,20 @@ module _ {m : ℕ} {a b c d : ℤ} (ta : Below 2000 a) (tb : Below 2000 b) (tc :
   third-sum : Sum (2000 + (2000 + (2000 + m))) a second (read a +ℤ read second)
   third-sum = added {x = a} {y = second} ta (second-sum .small) (omega arith)
 
-  pub four-added : Added (m + 6000) a b c d (read a +ℤ read second)
+  pub four-added : FourAdded (m + 6000) a b c d (read a +ℤ read second)
   four-added =
       record {
         is = third-sum .is ∙ ap (λ (z : ℤ). a +ℤ z) (second-sum .is ∙ ap (λ (z : ℤ). b +ℤ z) (first-sum .is));
         small = below-more (omega arith) (third-sum .small);
       }
 
-  pub four-read : Added (m + 6000) a b c d (read (read a +ℤ read second))
+  pub four-read : FourAdded (m + 6000) a b c d (read (read a +ℤ read second))
   four-read =
       let e = below-back (below-more (omega arith) (four-added .small)) in
       record { is = e ∙ four-added .is; small = subst (Below (m + 6000)) (sym e) (four-added .small) }
 
 -- all of them, the readings first
-module _ {b : SegmentBreakdown} (q : PartsBelow b) {e : ℤ} (r : Added 8000 (b .facade) (b .chart) (b .track) (b .ballast) e) where
+module _ {b : SegmentBreakdown} (q : PartsBelow b) {e : ℤ} (r : FourAdded 8000 (b .facade) (b .chart) (b .track) (b .ballast) e) where
   pub path-fits : SFits w32 (read (b .path) +ℤ read e)
   path-fits = first-fits (q .angle) (q .opposite) (q .path) (r .small) (lit≤ tt)
 
@@ -179,7 +180,7 @@ module _ {b : SegmentBreakdown} (q : PartsBelow b) {e : ℤ} (r : Added 8000 (b 
   pub angle-fits : SFits w32 across
   angle-fits = third-fits (q .angle) (q .opposite) (q .path) (r .small) (lit≤ tt)
 
-  across-sum : Added 14000 (b .angle) (b .opposite) (b .path) e across
+  across-sum : FourAdded 14000 (b .angle) (b .opposite) (b .path) e across
   across-sum = four-added (q .angle) (q .opposite) (q .path) (r .small) (lit≤ tt)
 
   pub air-fits : SFits w32 (read (b .air) +ℤ read across)

@@ -10,7 +10,8 @@ use Rattle.figures.specs.declared.Segment.{Segment}
 use Rattle.figures.specs.declared.Check.the-variants.{Accepted, Refused}
 use Rattle.figures.specs.Geometry.{inShadow}
 use Rattle.figures.specs.Rules.{unscreened}
-use Rattle.figures.specs.Bounds.{Below, Ranged, ReadingsRanged}
+use Rattle.figures.specs.Bounds.{Below}
+use Rattle.figures.specs.Private.{Ranged, ReadingsRanged}
 use Rattle.propagation.specs.declared.SegmentBreakdown.{SegmentBreakdown}
 use Rattle.propagation.specs.declared.Propagation.{Propagation}
 use Rattle.propagation.specs.declared.ground.Path.{Path}
@@ -53,7 +54,7 @@ pub record PathTenths (s : Segment) (r : Path) : Type 0 where
   pub small : Below 2000 (r .tenths)
 
 -- four numbers added, the last two first
-pub record Added (bound : ℕ) (a b c d r : ℤ) : Type 0 where
+pub record FourAdded (bound : ℕ) (a b c d r : ℤ) : Type 0 where
   pub is : r ≡ a +ℤ (b +ℤ (c +ℤ d))
   pub small : Below bound r
 

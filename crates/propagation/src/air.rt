@@ -1,6 +1,6 @@
 // The air step, decided over squares: no root is taken.
 ghost use Rattle.decibel.specs.Round.{nearest};
-ghost use Rattle.figures.specs.Bounds.{Exactly};
+ghost use Rattle.figures.specs.Private.{Exactly};
 ghost use Rattle.propagation.specs.Air.{airFence};
 ghost use Rattle.propagation.specs.Private.{Ranges};
 use figures::Segment;

@@ -1,7 +1,7 @@
 // The angle step.
 ghost use Prim.Native.Nat.{_≤_};
 ghost use Rattle.decibel.specs.Round.{nearest};
-ghost use Rattle.figures.specs.Bounds.{Exactly};
+ghost use Rattle.figures.specs.Private.{Exactly};
 ghost use Rattle.propagation.specs.Angle.{angleFence};
 ghost use Rattle.propagation.specs.Private.{Ranges, View};
 use figures::Segment;

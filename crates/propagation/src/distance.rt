@@ -1,6 +1,6 @@
 // The distance step, by the square of the slant distance.
 ghost use Rattle.decibel.specs.Round.{nearest};
-ghost use Rattle.figures.specs.Bounds.{Exactly};
+ghost use Rattle.figures.specs.Private.{Exactly};
 ghost use Rattle.propagation.specs.Distance.{distanceFence};
 ghost use Rattle.propagation.specs.Private.{Ranges};
 use figures::Segment;

@@ -13,7 +13,7 @@ ghost use Rattle.propagation.specs.Check.{segmentCheck};
 ghost use Rattle.propagation.specs.Ground.{groundMark, SegmentMark};
 ghost use Rattle.propagation.specs.Propagation.{segmentPartsBy, segmentBreakdownOf, propagationOf, refusalJudgement, judgementOf};
 ghost use Rattle.propagation.specs.Results.{PartsBelow, SegmentParted, JudgementAllowed};
-ghost use Rattle.propagation.specs.Private.{Ranges, Differs, PathTenths, Added, sumOf};
+ghost use Rattle.propagation.specs.Private.{Ranges, Differs, PathTenths, FourAdded, sumOf};
 use check::Judged;
 use figures::Check;
 use figures::Refusal;
@@ -117,7 +117,7 @@ pub fn segment_breakdown_of(s: Segment) -> SegmentBreakdown
 // The facade and the readings of Chart 6(c), Table 1 and ballast.
 fn readings_of(b: SegmentBreakdown) -> i32
     requires { ⌜ PartsBelow b ⌝ }
-    ensures { λ r. ⌜ Added 8000 (b .facade) (b .chart) (b .track) (b .ballast) r ⌝ }
+    ensures { λ r. ⌜ FourAdded 8000 (b .facade) (b .chart) (b .track) (b .ballast) r ⌝ }
 {
     b.facade + (b.chart + (b.track + b.ballast))
 }

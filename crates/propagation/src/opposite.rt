@@ -1,6 +1,6 @@
 // The step of opposite facades.
 ghost use Rattle.decibel.specs.Round.{nearest};
-ghost use Rattle.figures.specs.Bounds.{Exactly};
+ghost use Rattle.figures.specs.Private.{Exactly};
 ghost use Rattle.propagation.specs.Opposite.{oppositeFence};
 ghost use Rattle.propagation.specs.Private.{Ranges};
 use figures::Segment;

@@ -6,7 +6,7 @@ ghost use lib.IntN.{_-ℤ_};
 ghost use Rattle.decibel.specs.Round.{nearest};
 ghost use Rattle.figures.specs.Geometry.{slant, slantSquare};
 ghost use Rattle.figures.specs.Rules.{unscreened};
-ghost use Rattle.figures.specs.Bounds.{Exactly, Ranged};
+ghost use Rattle.figures.specs.Private.{Exactly, Ranged};
 ghost use Rattle.propagation.specs.Screen.{mostShadow, pathDifference, screenFormula, screenFence};
 ghost use Rattle.propagation.specs.Private.{Ranges, Differs, Length};
 use figures::Segment;

@@ -14,7 +14,7 @@ use Rattle.request.specs.declared.Answer.{Answer}
 use Rattle.study.specs.Add.{ours}
 use Rattle.study.specs.Plan.{Plan, planOf}
 use Rattle.request.specs.Levels.{ownMarks}
-use Rattle.request.specs.Request.{cellsNeeded, levelsCheck, answerBy, Answered, resultIn}
+use Rattle.request.specs.Request.{cellsNeeded, levelsCheck, answerBy, Answered, resultIn, answerOf}
 use Rattle.request.specs.Accuracy.{AccurateToBare, demanded}
 use Rattle.study.proofs.Runs.{run-accepted}
 use Rattle.request.proofs.Demand3.{request-answered, ours-fit}
@@ -74,7 +74,7 @@ module _ (text : List ℕ) (before after : List ℤ) (r : RailnoiseAnswer) (call
     check-is = rw plan-is (request-answered (listedIn text) (length before) (accepted-text-has-entry ours ours-fit text ok) enough)
 
     accurate : AnswerAccurate (listedIn text) r
-    unfolding exported listedIn answerBy checkNumber
+    unfolding exported listedIn answerOf checkNumber
     accurate =
         subst (AnswerAccurate (listedIn text)) (sym whole)
         (record {

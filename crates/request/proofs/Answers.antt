@@ -26,8 +26,8 @@ use Rattle.request.specs.declared.PeriodResult.{PeriodResult}
 use Rattle.request.specs.declared.Answer.{Answer}
 use Rattle.request.specs.Levels.{levelsOf, levelAt, ownMarks, MarksAllowed}
 use Rattle.request.specs.Request.{cellsNeeded, requestCheck, levelsCheck, laid, cellsBy, answerOf, refusedBy, periodFrom, checkFrom, AnsweredBy, Answered, AnsweredFrom}
-use Rattle.request.specs.Private.{cellsOf, placesOf}
-use Rattle.request.proofs.Cells.{cells-length}
+use Rattle.request.specs.Private.{placesOf}
+use Rattle.request.proofs.Cells.{cellsOf, cells-length}
 use Rattle.request.proofs.Results.{period-is, own-allowed}
 
 -- ---- which refusal applies

@@ -26,7 +26,7 @@ use Rattle.emission.specs.Results.{SmallLevel}
 use Rattle.study.specs.declared.Entry.{Entry}
 use Rattle.study.specs.Plan.{Plan, segmentAt, noEntry}
 use Rattle.request.specs.Levels.{levelAt, levelsOf, groundMarks, cellOf}
-use Rattle.request.specs.Private.{cellsOf, cellFrom}
+use Rattle.request.specs.Private.{cellFrom}
 use Rattle.request.proofs.Found.{own-mark, own-tenths}
 
 -- ---- one cell
@@ -53,6 +53,10 @@ pub wide : (z : ℤ) → mag z < 2 ^ 15 → mag z < 2 ^ 31
 wide z h = omega arith
 
 -- ---- a period's cells
+
+-- its levels as working cells hold them
+abbrev pub cellsOf : Period → Plan → List ℤ
+cellsOf p plan = map cellOf (levelsOf p plan (groundMarks plan))
 
 module _ (p : Period) (plan : Plan) where
   pub cells-length : length (cellsOf p plan) ≡ length (plan .entries)

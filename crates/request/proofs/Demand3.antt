@@ -17,12 +17,12 @@ use Rattle.study.specs.declared.Entry.{Entry}
 use Rattle.request.specs.declared.Answer.{Answer}
 use Rattle.study.specs.Plan.{Plan}
 use Rattle.study.specs.Add.{Limits, ours}
-use Rattle.study.specs.Run.{Addition, run, accepted, LimitsFit}
+use Rattle.study.specs.Run.{Addition, run, accepted}
 use Rattle.request.specs.Levels.{Marks, resultBy}
 use Rattle.request.specs.Request.{cellsNeeded, requestCheck, levelsCheck, answerOf, answerBy, Answered, resultIn}
 use Rattle.request.specs.Accuracy.{hasTrains, Band, demanded, sharpest, AccurateToBare, AccurateRuns, Demand3, Demand3Sharp}
 use Rattle.study.proofs.Plans.{accepted-held}
-use Rattle.study.proofs.Runs.{run-accepted}
+use Rattle.study.proofs.Runs.{LimitsFit, run-accepted}
 use Rattle.request.proofs.Entries.{TotalsKeep, result-accurate}
 
 some-entry : (p : Period) (es : List Entry) → hasTrains p es ≡ true → 0 < length es

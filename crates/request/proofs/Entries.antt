@@ -12,8 +12,7 @@ use Rattle.decibel.specs.Round.{byMark}
 use Rattle.decibel.specs.declared.Level.the-variants.{Figure}
 use Rattle.energy.specs.Energy.{added, BareLevel, bareAt}
 use Rattle.energy.specs.Total.{energies, totalBy}
-use Rattle.energy.specs.Accuracy.{Entries, none, next, AccurateTotal}
-use Rattle.energy.proofs.Accurate.{entries-bare}
+use Rattle.energy.proofs.Accurate.{Entries, none, next, AccurateTotal, entries-bare}
 use Rattle.energy.proofs.Bare.{bare-same}
 use Rattle.figures.specs.declared.Segment.{Segment}
 use Rattle.figures.specs.declared.Period.{Period}
@@ -26,17 +25,16 @@ use Rattle.request.proofs.EntryLevels.{near-entry, level-figure, level-
 use Rattle.study.specs.declared.Entry.{Entry}
 use Rattle.study.specs.Plan.{Plan, segmentAt}
 use Rattle.study.specs.Add.{Limits}
-use Rattle.study.specs.Run.{Each, EntryHeld, Held}
-use Rattle.study.specs.Run as Run
+use Rattle.study.proofs.Plans as Plans
 use Rattle.request.specs.Levels.{Marks, markAt, totalMarkIn, levelAt, levelsOf, figures, limitOf, metBy, resultFrom, resultBy}
-use Rattle.study.proofs.Plans.{segment-kept}
+use Rattle.study.proofs.Plans.{Each, EntryHeld, PlanHeld, segment-kept}
 use Rattle.request.specs.Accuracy.{fencesOf, Bare, hasTrains, Band, AccurateToBare}
 
 -- the fences and the figures of the entries that have trains in a period
-pub entries-near : (p : Period) {l : Limits} (plan : Plan) (m : Marks) → Held l plan → {es : List Entry} → Each (EntryHeld (plan .segments)) es → Entries (fencesOf p plan es) (figures (map (levelAt p plan m) es))
+pub entries-near : (p : Period) {l : Limits} (plan : Plan) (m : Marks) → PlanHeld l plan → {es : List Entry} → Each (EntryHeld (plan .segments)) es → Entries (fencesOf p plan es) (figures (map (levelAt p plan m) es))
 unfolding fencesOf figures levelAt
-entries-near p plan m held Run.Each.none = none
-entries-near p plan m held (Run.Each.next {x = e} {xs = es} at rest) = go (sounds p (e .train)) refl (entries-near p plan m held rest)
+entries-near p plan m held Plans.Each.none = none
+entries-near p plan m held (Plans.Each.next {x = e} {xs = es} at rest) = go (sounds p (e .train)) refl (entries-near p plan m held rest)
   where
     s : Segment
     s = segmentAt plan (e .segment)
@@ -89,7 +87,7 @@ TotalsKeep band =
 
 -- A period's result by any marks is accurate to the plan's bare level, in every band that totals keep to.
 module _ (band : Band) (kept : TotalsKeep band) where
-  pub result-accurate : (p : Period) {l : Limits} (plan : Plan) (m : Marks) → Held l plan → length (plan .entries) ≤ 96 → hasTrains p (plan .entries) ≡ true → AccurateToBare band p plan (resultBy p plan m)
+  pub result-accurate : (p : Period) {l : Limits} (plan : Plan) (m : Marks) → PlanHeld l plan → length (plan .entries) ≤ 96 → hasTrains p (plan .entries) ≡ true → AccurateToBare band p plan (resultBy p plan m)
   unfolding Bare resultBy resultFrom levelsOf metBy
   result-accurate p plan m held few trains =
       let es = entries-near p plan m held (held .entries) in

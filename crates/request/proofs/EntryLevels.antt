@@ -7,18 +7,17 @@ use native.Mathlib.Omega.{arith}
 use lib.Dec.{lit≤}
 use lib.IntN.{ℤ, pos, negsuc, _+ℤ_}
 use lib.Signed.{_≤ℤ_}
-use Rattle.decibel.specs.Round.{Near}
 use Rattle.decibel.specs.declared.Level.{Level}
 use Rattle.decibel.specs.declared.Level.the-variants.{Silent, Figure}
 use Rattle.decibel.proofs.Ints.{ints}
-use Rattle.decibel.proofs.Round.{near-add}
+use Rattle.decibel.proofs.Round.{Near, near-add}
 use Rattle.figures.specs.declared.Segment.{Segment}
 use Rattle.figures.specs.declared.Train.{Train}
 use Rattle.figures.specs.declared.Period.{Period}
 use Rattle.figures.specs.declared.Check.{Check}
 use Rattle.figures.specs.declared.Check.the-variants.{Accepted, Refused}
 use Rattle.figures.specs.Rules.{trainCheck}
-use Rattle.figures.specs.Bounds.{Signed}
+use Rattle.figures.specs.Private.{Signed}
 use Rattle.figures.proofs.Kept.{train-ranged}
 use Rattle.figures.proofs.Lies.{lies-add, near-lies}
 use Rattle.propagation.specs.Check.{segmentCheck}

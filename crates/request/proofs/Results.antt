@@ -21,9 +21,9 @@ use Rattle.request.specs.declared.PeriodResult.{PeriodResult}
 use Rattle.study.specs.Plan.{Plan, segmentAt}
 use Rattle.request.specs.Levels.{levelsOf, levelAt, figures, totalMarkIn, groundMarks, ownMarks, metBy, resultFrom, resultBy, MarksAllowed}
 use Rattle.request.specs.Request.{soundsAt, countTo, periodFrom}
-use Rattle.request.specs.Private.{cellsOf, placesOf, SegmentsHeard, CloseCount, AnyClose, CloseSegments}
+use Rattle.request.specs.Private.{placesOf, SegmentsHeard, CloseCount, AnyClose, CloseSegments}
 use Rattle.request.proofs.Totals.{figures-kept, figures-few, cells-heard, cells-sound}
-use Rattle.request.proofs.Cells.{cells-length}
+use Rattle.request.proofs.Cells.{cellsOf, cells-length}
 use Rattle.request.proofs.Counts.{count-same, count-none, own-marks, close-found}
 
 -- ---- a period's result

@@ -15,7 +15,7 @@ use Rattle.study.specs.Plan.{Plan, planOf}
 use Rattle.study.proofs.Sizes.{Opens}
 use Rattle.request.specs.declared.Answer.{Answer}
 use Rattle.request.specs.Request.{Answered, AnsweredFrom}
-use Rattle.request.specs.Private.{cellsOf, cellFrom, placesOf, Propagated, Filled}
+use Rattle.request.specs.Private.{cellFrom, placesOf, Propagated, Filled}
 use Rattle.request.proofs.Cells.{cells-length, cells-found}
 use Rattle.request.proofs.Answers.{Computed, Few, computed-answer, computed-marks}
 

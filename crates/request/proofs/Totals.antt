@@ -11,13 +11,13 @@ use Rattle.decibel.proofs.Ints.{ints}
 use Rattle.decibel.specs.declared.Level.{Level}
 use Rattle.decibel.specs.declared.Level.the-variants.{Silent, Figure}
 use Rattle.energy.specs.Total.{heard}
-use Rattle.energy.proofs.Levels.{Kept, none, next}
+use Rattle.energy.specs.Rising.{LevelsKept, none, next}
 use Rattle.energy.proofs.Order.{le-true, lt-false}
 use Rattle.figures.specs.declared.Period.{Period}
 use Rattle.emission.specs.Emission.{emissionOf, raised}
 use Rattle.propagation.specs.Propagation.{segmentBreakdownBy, addedUp}
 use Rattle.request.specs.Entry.{levelBy}
-use Rattle.figures.specs.Bounds.{Signed}
+use Rattle.figures.specs.Private.{Signed}
 use Rattle.study.specs.declared.Entry.{Entry}
 use Rattle.study.specs.Plan.{Plan, segmentAt}
 use Rattle.request.specs.Levels.{Marks, markAt, levelAt, figures, cellOf, isHeard, heardAt}
@@ -37,7 +37,7 @@ module _ {r : ℤ} (lies : Signed 2000 2000 r) where
   at-most = omega (arith, ints, lies .most)
 
 -- one level more
-kept-more : (l : Level) (ls : List Level) → Lies l → Kept (figures ls) → Kept (figures (l ∷ ls))
+kept-more : (l : Level) (ls : List Level) → Lies l → LevelsKept (figures ls) → LevelsKept (figures (l ∷ ls))
 unfolding figures
 kept-more Silent ls lies h = h
 kept-more (Figure r) ls lies h = next (at-least (lies r refl)) (at-most (lies r refl)) h
@@ -57,7 +57,7 @@ module _ (p : Period) (plan : Plan) (m : Marks) where
   unfolding levelAt
   entry-lies e = levels-lie p (segmentAt plan (e .segment)) (markAt m (e .segment)) (e .train)
 
-  pub figures-kept : (es : List Entry) → Kept (figures (map (levelAt p plan m) es))
+  pub figures-kept : (es : List Entry) → LevelsKept (figures (map (levelAt p plan m) es))
   unfolding figures
   figures-kept [] = none
   figures-kept (e ∷ es) = kept-more (levelAt p plan m e) (map (levelAt p plan m) es) (entry-lies e) (figures-kept es)

@@ -11,8 +11,7 @@ use Rattle.figures.specs.declared.Period.{Period}
 use Rattle.figures.specs.declared.Period.the-variants.{Day, Night}
 use Rattle.propagation.specs.Propagation.{propagationOf}
 use Rattle.study.specs.declared.Entry.{Entry}
-use Rattle.study.specs.Plan.{Plan, noSegment}
-use Rattle.request.specs.Levels.{levelsOf, groundMarks, cellOf}
+use Rattle.study.specs.Plan.{noSegment}
 use Rattle.request.specs.Request.{cellIn, soundsAt, countTo}
 
 -- places in which nothing stands yet
@@ -25,11 +24,7 @@ pub record Propagated (segments : List Segment) (ts : List ℤ) (cs : List Bool)
   pub tenths : (k : ℕ) → getD ts k (pos 0) ≡ propagationOf (getD segments k noSegment) .tenths
   pub close : (k : ℕ) → getD cs k false ≡ propagationOf (getD segments k noSegment) .close
 
--- a period's levels as working cells hold them
-abbrev pub cellsOf : Period → Plan → List ℤ
-cellsOf p plan = map cellOf (levelsOf p plan (groundMarks plan))
-
--- the same from what the segments add
+-- an entry's level as its working cell holds it, from what the segments add
 abbrev pub cellFrom : Period → List ℤ → Entry → ℤ
 cellFrom p tenths e = cellIn p (getD tenths (e .segment) (pos 0)) (e .train)
 

@@ -15,10 +15,10 @@ use Rattle.study.specs.declared.Entry.{Entry}
 use Rattle.study.specs.declared.Study.{Study}
 use Rattle.study.specs.Plan.{Plan, planOf, emptyPlan, emptyStudy}
 use Rattle.study.specs.Add.{Limits, addSegment, addTrain, withSegment, withTrain}
-use Rattle.study.specs.Run.{Addition, segment, train, step, runFrom, run, kept, extend, extendAll, accepted, LimitsFit, Sized, Each, none, next, EntryHeld, Held, checkOf, acceptedOnly, trainsOf, listedFrom, listed}
+use Rattle.study.specs.Run.{Addition, segment, train, step, runFrom, run, kept, extend, extendAll, accepted, trainsOf, listedFrom, listed}
 use Rattle.study.proofs.Additions.{refused-study, train-taken}
-use Rattle.study.proofs.Plans.{extend-held, refused-stays, by-one}
-use Rattle.study.proofs.Runs.{step-sized, empty-sized, placed-length, rows-length, step-plan, run-accepted}
+use Rattle.study.proofs.Plans.{Each, none, next, EntryHeld, PlanHeld, checkOf, acceptedOnly, extend-held, refused-stays, by-one}
+use Rattle.study.proofs.Runs.{LimitsFit, Sized, step-sized, empty-sized, placed-length, rows-length, step-plan, run-accepted}
 
 -- ---- the trains of one segment: none past the last, and one more of its own
 
@@ -66,7 +66,7 @@ list-last e (x ∷ ss) es some q = list-train e 0 x ss es (omega arith)
 
 -- ---- a plan that has accepted one more
 
-module _ (l : Limits) (p : Plan) (held : Held l p) where
+module _ (l : Limits) (p : Plan) (held : PlanHeld l p) where
   listed-segment : (s : Segment) → listed (record { segments = p .segments ++ (s ∷ []); entries = p .entries }) ≡ listed p ++ (segment s ∷ [])
   unfolding listed
   listed-segment s = list-segment s 0 (p .segments) (p .entries) (trains-none (0 + length (p .segments)) (p .segments) (omega arith) (held .entries))
@@ -82,7 +82,7 @@ module _ (l : Limits) (p : Plan) (held : Held l p) where
   listed-kept (train t) e = rw e (listed-train (record { segment = length (p .segments) - 1; train = t }) (train-taken l _ _ t e .some) refl)
 
 -- the additions accepted follow those that the plan lists
-listed-all : (l : Limits) (additions : List Addition) (p : Plan) → Held l p → listed (extendAll l p additions) ≡ listed p ++ acceptedOnly l p additions
+listed-all : (l : Limits) (additions : List Addition) (p : Plan) → PlanHeld l p → listed (extendAll l p additions) ≡ listed p ++ acceptedOnly l p additions
 unfolding extendAll acceptedOnly
 listed-all l [] p held = sym (append-nil (listed p))
 listed-all l (a ∷ rest) p held =

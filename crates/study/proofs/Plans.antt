@@ -2,7 +2,7 @@
 -- Assumes nothing.
 use mathlib.Core.Path.{_≡_, refl, ap, subst}
 use mathlib.Core.List.{List, [], _∷_, _++_}
-use Prim.Native.Nat.{ℕ, zero, suc, _+_, _-_, _<_}
+use Prim.Native.Nat.{ℕ, zero, suc, _+_, _-_, _≤_, _<_}
 use native.Mathlib.Nat.{not-suc-le-zero, le-of-suc-le-suc}
 use native.Mathlib.Omega.{arith}
 use lib.ListN.{length, getD, length-append}
@@ -11,14 +11,20 @@ use Rattle.figures.specs.declared.Train.{Train}
 use Rattle.figures.specs.declared.Refusal.{Refusal}
 use Rattle.figures.specs.declared.Check.{Check}
 use Rattle.figures.specs.declared.Check.the-variants.{Accepted, Refused}
+use Rattle.figures.specs.Rules.{trainCheck}
 use Rattle.propagation.specs.Check.{segmentCheck}
 use Rattle.study.specs.declared.Entry.{Entry}
 use Rattle.study.specs.Plan.{Plan, emptyPlan, segmentAt, noSegment}
 use Rattle.study.specs.Add.{Limits, segmentAnswer, trainAnswer}
-use Rattle.study.specs.Run.{Addition, segment, train, kept, extend, extendAll, accepted, Each, none, next, Held, checkOf, keptOne, acceptedOnly}
+use Rattle.study.specs.Run.{Addition, segment, train, kept, extend, extendAll, accepted}
 use Rattle.study.proofs.Additions.{segment-taken, train-taken}
 
 -- ---- each element of a list
+
+-- P holds of each element
+pub data Each {A : Type 0} (P : A → Type 0) : List A → Type 0 where
+  none : Each P []
+  next : {x : A} {xs : List A} → P x → Each P xs → Each P (x ∷ xs)
 
 module _ {A : Type 0} {P : A → Type 0} where
   each-append : {xs : List A} (x : A) → Each P xs → P x → Each P (xs ++ (x ∷ []))
@@ -36,6 +42,18 @@ module _ {A : Type 0} {P : A → Type 0} where
 
 -- ---- what a plan holds
 
+-- an entry that an addition has made: of one of the segments, with a train that keeps its lines
+pub record EntryHeld (segments : List Segment) (e : Entry) : Type 0 where
+  pub segment : e .segment < length segments
+  pub train : trainCheck (e .train) ≡ Accepted
+
+-- a plan that additions have made
+pub record PlanHeld (l : Limits) (plan : Plan) : Type 0 where
+  pub count : length (plan .segments) ≤ l .segments
+  pub total : length (plan .entries) ≤ l .entries
+  pub segments : Each (λ (s : Segment). segmentCheck s ≡ Accepted) (plan .segments)
+  pub entries : Each (EntryHeld (plan .segments)) (plan .entries)
+
 by-kept : (P : Plan → Type 0) (check : Check) (old new : Plan) → P old → (check ≡ Accepted → P new) → P (kept check old new)
 unfolding kept
 by-kept P Accepted old new a b = b refl
@@ -44,8 +62,8 @@ by-kept P (Refused r) old new a b = a
 longer : {A : Type 0} (xs : List A) (x : A) → length (xs ++ (x ∷ [])) ≡ length xs + 1
 longer xs x = length-append xs (x ∷ [])
 
-module _ (l : Limits) (p : Plan) (held : Held l p) where
-  segment-held : (s : Segment) → segmentAnswer l (length (p .segments)) s ≡ Accepted → Held l (record { segments = p .segments ++ (s ∷ []); entries = p .entries })
+module _ (l : Limits) (p : Plan) (held : PlanHeld l p) where
+  segment-held : (s : Segment) → segmentAnswer l (length (p .segments)) s ≡ Accepted → PlanHeld l (record { segments = p .segments ++ (s ∷ []); entries = p .entries })
   segment-held s e =
       let taken = segment-taken l (length (p .segments)) s e in
       let more = longer (p .segments) s in
@@ -57,7 +75,7 @@ module _ (l : Limits) (p : Plan) (held : Held l p) where
       }
 
   train-held : (t : Train) → trainAnswer l (length (p .segments)) (length (p .entries)) t ≡ Accepted
-      → Held l (record { segments = p .segments; entries = p .entries ++ (record { segment = length (p .segments) - 1; train = t } ∷ []) })
+      → PlanHeld l (record { segments = p .segments; entries = p .entries ++ (record { segment = length (p .segments) - 1; train = t } ∷ []) })
   train-held t e =
       let taken = train-taken l (length (p .segments)) (length (p .entries)) t e in
       let entry : Entry = record { segment = length (p .segments) - 1; train = t } in
@@ -68,25 +86,38 @@ module _ (l : Limits) (p : Plan) (held : Held l p) where
         entries = each-append entry (held .entries) (record { segment = omega (arith, taken .some); train = taken .kept });
       }
 
-  pub extend-held : (a : Addition) → Held l (extend l p a)
+  pub extend-held : (a : Addition) → PlanHeld l (extend l p a)
   unfolding extend
-  extend-held (segment s) = by-kept (Held l) (segmentAnswer l (length (p .segments)) s) p _ held (segment-held s)
-  extend-held (train t) = by-kept (Held l) (trainAnswer l (length (p .segments)) (length (p .entries)) t) p _ held (train-held t)
+  extend-held (segment s) = by-kept (PlanHeld l) (segmentAnswer l (length (p .segments)) s) p _ held (segment-held s)
+  extend-held (train t) = by-kept (PlanHeld l) (trainAnswer l (length (p .segments)) (length (p .entries)) t) p _ held (train-held t)
 
-all-held : (l : Limits) (p : Plan) → Held l p → (additions : List Addition) → Held l (extendAll l p additions)
+all-held : (l : Limits) (p : Plan) → PlanHeld l p → (additions : List Addition) → PlanHeld l (extendAll l p additions)
 unfolding extendAll
 all-held l p held [] = held
 all-held l p held (a ∷ rest) = all-held l (extend l p a) (extend-held l p held a) rest
 
 -- every segment held is within its lines, every entry has one of them and a train within its lines, and the limits are kept
-pub accepted-held : (l : Limits) (additions : List Addition) → Held l (accepted l additions)
+pub accepted-held : (l : Limits) (additions : List Addition) → PlanHeld l (accepted l additions)
 unfolding accepted
 accepted-held l additions = all-held l emptyPlan (record { count = omega arith; total = omega arith; segments = none; entries = none }) additions
 
-pub segment-kept : {l : Limits} (plan : Plan) → Held l plan → (k : ℕ) → k < length (plan .segments) → segmentCheck (segmentAt plan k) ≡ Accepted
+pub segment-kept : {l : Limits} (plan : Plan) → PlanHeld l plan → (k : ℕ) → k < length (plan .segments) → segmentCheck (segmentAt plan k) ≡ Accepted
 segment-kept plan held k h = each-at (held .segments) k noSegment h
 
 -- ---- the additions that are not refused
+
+-- what a plan answers to an addition
+unfoldable pub checkOf : Limits → Plan → Addition → Check
+checkOf l p (segment s) = segmentAnswer l (length (p .segments)) s
+checkOf l p (train t) = trainAnswer l (length (p .segments)) (length (p .entries)) t
+
+unfoldable pub keptOne : Check → Addition → List Addition → List Addition
+keptOne Accepted a rest = a ∷ rest
+keptOne (Refused r) a rest = rest
+
+unfoldable pub acceptedOnly : Limits → Plan → List Addition → List Addition
+acceptedOnly l p [] = []
+acceptedOnly l p (a ∷ rest) = keptOne (checkOf l p a) a (acceptedOnly l (extend l p a) rest)
 
 pub refused-stays : (l : Limits) (p : Plan) (a : Addition) (r : Refusal) → checkOf l p a ≡ Refused r → extend l p a ≡ p
 unfolding extend checkOf kept

@@ -2,7 +2,7 @@
 -- Assumes nothing.
 use mathlib.Core.Path.{_≡_, refl, ap, _∙_}
 use mathlib.Core.List.{List, [], _∷_, _++_}
-use Prim.Native.Nat.{_-_}
+use Prim.Native.Nat.{_-_, _≤_}
 use native.Mathlib.Numerals.{add-one}
 use native.Mathlib.Omega.{arith}
 use lib.ListN.{length, take, length-set}
@@ -15,8 +15,20 @@ use Rattle.study.specs.declared.Entry.{Entry}
 use Rattle.study.specs.declared.Study.{Study}
 use Rattle.study.specs.Plan.{Plan, planOf, emptyStudy}
 use Rattle.study.specs.Add.{Limits, segmentAnswer, trainAnswer, addSegment, addTrain, answer, withSegment, withTrain}
-use Rattle.study.specs.Run.{Addition, segment, train, step, runFrom, run, kept, extend, extendAll, accepted, LimitsFit, Sized}
+use Rattle.study.specs.Run.{Addition, segment, train, step, runFrom, run, kept, extend, extendAll, accepted}
 use Rattle.study.proofs.Additions.{by-answer, segment-taken, train-taken}
+
+-- limits that the arrays of a study have room for
+pub record LimitsFit (l : Limits) : Type 0 where
+  pub segments : l .segments ≤ 24
+  pub entries : l .entries ≤ 96
+
+-- a study of the size that its type has, with counts within the limits
+pub record Sized (l : Limits) (st : Study) : Type 0 where
+  pub count : st .count ≤ l .segments
+  pub total : st .total ≤ l .entries
+  pub places : length (st .segments) ≡ 24
+  pub rows : length (st .entries) ≡ 96
 
 -- ---- the study's size
 

@@ -1,17 +1,14 @@
 -- A list of additions from the empty study, refused ones in it (01, "Contracts and evidence"): the study that it makes, and what the list alone says was accepted.
 -- Assumes nothing.
-use mathlib.Core.Path.{_≡_}
 use mathlib.Core.Bool.{cond}
 use mathlib.Core.List.{List, [], _∷_, _++_}
-use Prim.Native.Nat.{ℕ, _+_, _-_, _≤_, _<_}
+use Prim.Native.Nat.{ℕ, _+_, _-_}
 use lib.Dec.{eqb}
 use lib.ListN.{length}
 use Rattle.figures.specs.declared.Segment.{Segment}
 use Rattle.figures.specs.declared.Train.{Train}
 use Rattle.figures.specs.declared.Check.{Check}
 use Rattle.figures.specs.declared.Check.the-variants.{Accepted, Refused}
-use Rattle.figures.specs.Rules.{trainCheck}
-use Rattle.propagation.specs.Check.{segmentCheck}
 use Rattle.study.specs.declared.Entry.{Entry}
 use Rattle.study.specs.declared.Study.{Study}
 use Rattle.study.specs.Plan.{Plan, emptyPlan, emptyStudy}
@@ -52,52 +49,6 @@ extendAll l p (a ∷ rest) = extendAll l (extend l p a) rest
 
 unfoldable pub accepted : Limits → List Addition → Plan
 accepted l additions = extendAll l emptyPlan additions
-
--- limits that the arrays of a study have room for
-pub record LimitsFit (l : Limits) : Type 0 where
-  pub segments : l .segments ≤ 24
-  pub entries : l .entries ≤ 96
-
--- ---- what runs and their plans have
-
--- P holds of each element
-pub data Each {A : Type 0} (P : A → Type 0) : List A → Type 0 where
-  none : Each P []
-  next : {x : A} {xs : List A} → P x → Each P xs → Each P (x ∷ xs)
-
--- an entry that an addition has made: of one of the segments, with a train that keeps its lines
-pub record EntryHeld (segments : List Segment) (e : Entry) : Type 0 where
-  pub segment : e .segment < length segments
-  pub train : trainCheck (e .train) ≡ Accepted
-
--- a plan that additions have made
-pub record Held (l : Limits) (plan : Plan) : Type 0 where
-  pub count : length (plan .segments) ≤ l .segments
-  pub total : length (plan .entries) ≤ l .entries
-  pub segments : Each (λ (s : Segment). segmentCheck s ≡ Accepted) (plan .segments)
-  pub entries : Each (EntryHeld (plan .segments)) (plan .entries)
-
--- a study of the size that its type has, with counts within the limits
-pub record Sized (l : Limits) (st : Study) : Type 0 where
-  pub count : st .count ≤ l .segments
-  pub total : st .total ≤ l .entries
-  pub places : length (st .segments) ≡ 24
-  pub rows : length (st .entries) ≡ 96
-
--- ---- the additions of a list that are not refused
-
--- what a plan answers to an addition
-unfoldable pub checkOf : Limits → Plan → Addition → Check
-checkOf l p (segment s) = segmentAnswer l (length (p .segments)) s
-checkOf l p (train t) = trainAnswer l (length (p .segments)) (length (p .entries)) t
-
-unfoldable pub keptOne : Check → Addition → List Addition → List Addition
-keptOne Accepted a rest = a ∷ rest
-keptOne (Refused r) a rest = rest
-
-unfoldable pub acceptedOnly : Limits → Plan → List Addition → List Addition
-acceptedOnly l p [] = []
-acceptedOnly l p (a ∷ rest) = keptOne (checkOf l p a) a (acceptedOnly l (extend l p a) rest)
 
 -- ---- a plan as a list of additions: each segment, and after it the trains of its entries, in order
 

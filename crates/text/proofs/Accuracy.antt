@@ -11,7 +11,8 @@ use Rattle.figures.specs.declared.Check.the-variants.{Accepted}
 use Rattle.study.specs.declared.Study.{Study}
 use Rattle.request.specs.declared.Answer.{Answer}
 use Rattle.study.specs.Add.{Limits}
-use Rattle.study.specs.Run.{accepted, LimitsFit}
+use Rattle.study.specs.Run.{accepted}
+use Rattle.study.proofs.Runs.{LimitsFit}
 use Rattle.request.specs.Request.{cellsNeeded, Answered, resultIn}
 use Rattle.request.specs.Accuracy.{hasTrains, AccurateToBare, demanded}
 use Rattle.request.proofs.Demand3.{levels-accurate}

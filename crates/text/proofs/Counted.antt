@@ -17,8 +17,8 @@ use Rattle.figures.proofs.Kept.{refused-not}
 use Rattle.study.specs.declared.Study.{Study}
 use Rattle.study.specs.Plan.{Plan, planOf, emptyStudy}
 use Rattle.study.specs.Add.{Limits, segmentAnswer, trainAnswer, withSegment, withTrain, answer, addSegment, addTrain}
-use Rattle.study.specs.Run.{run, accepted, LimitsFit}
-use Rattle.study.proofs.Runs.{run-sized, rows-length, run-accepted}
+use Rattle.study.specs.Run.{run, accepted}
+use Rattle.study.proofs.Runs.{LimitsFit, run-sized, rows-length, run-accepted}
 use Rattle.lines.specs.Numbers.{numbersOf}
 use Rattle.lines.specs.Lines.{segmentOf, trainOf}
 use Rattle.lines.specs.Contents.{Read, refused, counts, isCount, countsIn, sumOfCounts, between, inAll, contentsIn, contentsOf}

@@ -20,9 +20,9 @@ use Rattle.study.specs.declared.Entry.{Entry}
 use Rattle.study.specs.Plan.{Plan, segmentAt, noSegment, noTrain}
 use Rattle.request.specs.declared.Answer.{Answer}
 use Rattle.request.specs.Request.{cellIn, AnsweredFrom}
-use Rattle.request.specs.Private.{cellsOf, cellFrom}
+use Rattle.request.specs.Private.{cellFrom}
 use Rattle.request.proofs.Found.{none-adds}
-use Rattle.request.proofs.Cells.{cells-found}
+use Rattle.request.proofs.Cells.{cellsOf, cells-found}
 use Rattle.request.proofs.Answers.{Computed, Few, computed-answer, computed-marks}
 use Rattle.text.specs.Private.{Works, PlanAnswered}
 

@@ -14,8 +14,9 @@ use Rattle.figures.proofs.Kept.{refused-not}
 use Rattle.study.specs.declared.Study.{Study}
 use Rattle.study.specs.Plan.{planOf, emptyStudy}
 use Rattle.study.specs.Add.{Limits}
-use Rattle.study.specs.Run.{Addition, step, runFrom, run, LimitsFit, listed}
+use Rattle.study.specs.Run.{Addition, step, runFrom, run, listed}
 use Rattle.study.proofs.Listed.{run-listed}
+use Rattle.study.proofs.Runs.{LimitsFit}
 use Rattle.lines.specs.Lines.{segmentOf, trainOf}
 use Rattle.lines.specs.Contents.{Read, refused, counts, contentsOf}
 use Rattle.text.specs.Text.{Line, ended, unended, linesOf, Kind, segmentKind, trainKind, kindsOf, segmentAdds, trainAdds, addLine, refusedAt, after, readLines, readBody, readFrom, readText}

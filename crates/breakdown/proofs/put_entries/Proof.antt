@@ -10,7 +10,7 @@ use Rattle.decibel.proofs.Words.{back}
 use Rattle.study.specs.declared.Entry.{Entry}
 use Rattle.study.specs.declared.Study.{Study}
 use Rattle.study.specs.Plan.{planOf, heldBy}
-use Rattle.study.proofs.Sizes.{few-entries, plan-entry, opened-entries}
+use Rattle.study.proofs.Sizes.{few-entries, plan-entry, opens, opened-entries}
 use Rattle.writing.specs.Pages.{PutEach}
 use Rattle.breakdown.specs.Breakdown.{eachBelow, entryLine, entriesParts}
 use Rattle.breakdown.proofs.Parts.{each-none, each-more, entry-put, entries-same}
@@ -31,8 +31,8 @@ abbrev μ-loop : tie.MeasureT-loop
 loop-holds : tie.Need-loop-holds Inv-loop μ-loop
 loop-holds c =
     let read = c .before in
-    let o = read .holdings-of .ensures in
-    let start = read .before .before in (
+    let start = read .before .before in
+    let o = opens (start .args .study) (start .good .0) (read .holdings-of .ensures) in (
       omega arith,
       omega (arith, o .total, few-entries (start .args .study) (start .good .0)),
       o .total ∙ sym (ap length (opened-entries o)),
@@ -70,7 +70,7 @@ returns c =
     let read = head .before .before in
     let st = held (read .holdings-of .result .entries) (read .holdings-of .result .total) in
     let all : head .loop .k ≡ length (planOf st .entries) = omega (arith, head .loop .inv .2) in
-    rw (← entries-same (planOf st) (planOf (read .before .before .args .study)) (read .before .before .args .cells .now) (opened-entries (read .holdings-of .ensures))) (rw (← all) (head .loop .inv .4))
+    rw (← entries-same (planOf st) (planOf (read .before .before .args .study)) (read .before .before .args .cells .now) (opened-entries (opens (read .before .before .args .study) (read .before .before .good .0) (read .holdings-of .ensures)))) (rw (← all) (head .loop .inv .4))
 
 pub put-entries-spec : {M : Type 1} → statement M
 put-entries-spec =

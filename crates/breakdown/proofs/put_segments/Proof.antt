@@ -9,7 +9,7 @@ use lib.ListN.{length}
 use Rattle.figures.specs.declared.Segment.{Segment}
 use Rattle.study.specs.declared.Study.{Study}
 use Rattle.study.specs.Plan.{planOf, heldBy}
-use Rattle.study.proofs.Sizes.{few-segments, plan-segment, opened-segments}
+use Rattle.study.proofs.Sizes.{few-segments, plan-segment, opens, opened-segments}
 use Rattle.writing.specs.Pages.{PutEach}
 use Rattle.breakdown.specs.Breakdown.{eachBelow, segmentLine, segmentsParts}
 use Rattle.breakdown.proofs.Parts.{each-none, each-more, segments-same}
@@ -29,8 +29,8 @@ abbrev μ-loop : tie.MeasureT-loop
 
 loop-holds : tie.Need-loop-holds Inv-loop μ-loop
 loop-holds c =
-    let o = c .before .holdings-of .ensures in
-    let start = c .before .before .before in (
+    let start = c .before .before .before in
+    let o = opens (start .args .study) (start .good .0) (c .before .holdings-of .ensures) in (
       omega arith,
       omega (arith, o .count, few-segments (start .args .study) (start .good .0)),
       o .count ∙ sym (ap length (opened-segments o)),
@@ -58,7 +58,7 @@ returns c =
     let read = head .before .before in
     let st = held (read .holdings-of .result .segments) (read .holdings-of .result .count) in
     let all : head .loop .k ≡ length (planOf st .segments) = omega (arith, head .loop .inv .2) in
-    rw (← segments-same (planOf st) (planOf (read .before .before .args .study)) (opened-segments (read .holdings-of .ensures))) (rw (← all) (head .loop .inv .4))
+    rw (← segments-same (planOf st) (planOf (read .before .before .args .study)) (opened-segments (opens (read .before .before .args .study) (read .before .before .good .0) (read .holdings-of .ensures)))) (rw (← all) (head .loop .inv .4))
 
 pub put-segments-spec : {M : Type 1} → statement M
 put-segments-spec =
