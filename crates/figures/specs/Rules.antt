@@ -1,7 +1,8 @@
 -- The lines that a segment and a train entry keep (01, "The study"), each bound by its name, and the first line that is not kept (01, "Turned back
 -- for a figure"). Line 6 needs the screen's lengths and stands with the screen (crate propagation).
 -- Assumes nothing.
-use mathlib.Core.Bool.{Bool, _&&_, _||_}
+use mathlib.Core.Bool.{Bool, cond, _&&_, _||_}
+use mathlib.Core.List.{List, [], _∷_}
 use Prim.Native.Nat.{ℕ}
 use lib.IntN.{ℤ, pos, negℤ, _+ℤ_}
 use lib.Signed.{leZ}
@@ -150,3 +151,16 @@ trainsKept t = within (pos 0) (pos mostTrains) (t .day) && within (pos 0) (pos m
 -- the first line that a train entry does not keep
 unfoldable pub trainCheck : Train → Check
 trainCheck t = unless (rowKept t) Row (unless (speedKept t) Speed (unless (vehiclesKept t) Vehicles (unless (trainsKept t) Trains Accepted)))
+
+-- ---- the same by 01's numbers
+
+-- "The lowest number that applies is returned": of lines with their numbers, lowest first, that of the first one not kept; 0 where all are
+unfoldable pub lowestNumber : List (ℕ × Bool) → ℕ
+lowestNumber [] = 0
+lowestNumber ((number, kept) ∷ later) = cond kept (lowestNumber later) number
+
+unfoldable pub rangeLines : Segment → List (ℕ × Bool)
+rangeLines s = (1, distanceKept s) ∷ (2, heightsKept s) ∷ (3, softKept s) ∷ (4, anglesKept s) ∷ (5, screenKept s) ∷ []
+
+unfoldable pub trainLines : Train → List (ℕ × Bool)
+trainLines t = (8, rowKept t) ∷ (9, speedKept t) ∷ (10, vehiclesKept t) ∷ (11, trainsKept t) ∷ []

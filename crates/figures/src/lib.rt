@@ -2,11 +2,12 @@
 pub mod ranges;
 
 ghost use mathlib.Core.Path.{_≡_};
+ghost use mathlib.Core.Bool.{cond};
 ghost use lib.IntN.{_*ℤ_};
 ghost use Rattle.decibel.specs.Ints.{up};
 ghost use Rattle.figures.specs.Geometry.{slant, inShadow};
 ghost use Rattle.figures.specs.Private.{Square};
-ghost use Rattle.figures.specs.Refusal.{numberOf, checkNumber, unless, firstRefused};
+ghost use Rattle.figures.specs.Refusal.{numberOf, checkNumber, unless, firstRefused, isAccepted};
 ghost use Rattle.figures.specs.Rules.{within, unscreened};
 
 // One length of track as document 01 numbers its fields: lengths in centimetres, angles in degrees, readings in tenths.
@@ -134,7 +135,8 @@ pub fn check_number(check: Check) -> u32
 
 // The refusal where its line is not kept, else what the later lines say.
 pub fn unless(kept: bool, refusal: Refusal, rest: Check) -> Check
-    ensures { λ r. ⌜ r ≡ unless kept refusal rest ⌝ }
+    ensures is { λ r. ⌜ r ≡ unless kept refusal rest ⌝ }
+    ensures number { λ r. ⌜ checkNumber r ≡ cond kept (checkNumber rest) (numberOf refusal) ⌝ }
 {
     if kept {
         return rest;
@@ -144,7 +146,8 @@ pub fn unless(kept: bool, refusal: Refusal, rest: Check) -> Check
 
 // The first of two checks where it refuses, else the second.
 pub fn first_refused(first: Check, second: Check) -> Check
-    ensures { λ r. ⌜ r ≡ firstRefused first second ⌝ }
+    ensures is { λ r. ⌜ r ≡ firstRefused first second ⌝ }
+    ensures number { λ r. ⌜ checkNumber r ≡ cond (isAccepted first) (checkNumber second) (checkNumber first) ⌝ }
 {
     match first {
         Check::Accepted => second,

@@ -3,7 +3,8 @@ ghost use mathlib.Core.Path.{_≡_};
 ghost use mathlib.Core.Bool.{_&&_};
 ghost use lib.IntN.{pos, _+ℤ_};
 ghost use lib.Signed.{leZ};
-ghost use Rattle.figures.specs.Rules.{leastGap, distanceKept, heightsKept, softKept, anglesKept, unscreenedKept, screenedKept, screenKept, rangeCheck, readingsKept, trainsKept, trainCheck};
+ghost use Rattle.figures.specs.Rules.{leastGap, distanceKept, heightsKept, softKept, anglesKept, unscreenedKept, screenedKept, screenKept, rangeCheck, readingsKept, trainsKept, trainCheck, lowestNumber, rangeLines, trainLines};
+ghost use Rattle.figures.specs.Refusal.{checkNumber};
 use crate::Check;
 use crate::Refusal;
 use crate::Segment;
@@ -129,7 +130,8 @@ fn screen_kept(s: Segment) -> bool
 
 // The first of lines 1 to 5 that a segment does not keep. Line 6 needs lengths, and lines 1 to 5 for them.
 pub fn range_check(s: Segment) -> Check
-    ensures { λ r. ⌜ r ≡ rangeCheck s ⌝ }
+    ensures is { λ r. ⌜ r ≡ rangeCheck s ⌝ }
+    ensures number { λ r. ⌜ checkNumber r ≡ lowestNumber (rangeLines s) ⌝ }
 {
     unless(
         distance_kept(s),
@@ -167,7 +169,8 @@ fn trains_kept(t: Train) -> bool
 
 // The first line that a train entry does not keep.
 pub fn train_check(t: Train) -> Check
-    ensures { λ r. ⌜ r ≡ trainCheck t ⌝ }
+    ensures is { λ r. ⌜ r ≡ trainCheck t ⌝ }
+    ensures number { λ r. ⌜ checkNumber r ≡ lowestNumber (trainLines t) ⌝ }
 {
     unless(
         in_range(1, MOST_ROW, t.row),

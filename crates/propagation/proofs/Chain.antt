@@ -2,6 +2,7 @@
 -- Assumes nothing.
 use mathlib.Core.Path.{_≡_, refl, _∙_, ap}
 use mathlib.Core.Bool.{Bool, true, false, not, _||_, true≢false, false≢true}
+use mathlib.Core.List.{[], _∷_}
 use Prim.Native.Nat.{ℕ, _≤_}
 use lib.Dec.{leb}
 use borrow.Author.Tests.{leb-true}
@@ -11,11 +12,12 @@ use Rattle.figures.specs.declared.Refusal.the-variants.{Shadow, Reading}
 use Rattle.figures.specs.declared.Check.{Check}
 use Rattle.figures.specs.declared.Check.the-variants.{Accepted, Refused}
 use Rattle.figures.specs.Geometry.{inShadow}
-use Rattle.figures.specs.Refusal.{unless, firstRefused}
-use Rattle.figures.specs.Rules.{unscreened, rangeCheck, readingsKept}
+use Rattle.figures.specs.Refusal.{numberOf, checkNumber, unless, firstRefused}
+use Rattle.figures.specs.Rules.{unscreened, rangeCheck, readingsKept, lowestNumber}
 use Rattle.figures.proofs.Kept.{first-kept, rest-kept, ranges-first, ranged, readings-ranged}
+use Rattle.figures.proofs.Numbers.{unless-number, ranges-number}
 use Rattle.propagation.specs.Screen.{pathDifference, mostShadow, shadowKept}
-use Rattle.propagation.specs.Check.{segmentCheck}
+use Rattle.propagation.specs.Check.{segmentCheck, segmentLines}
 use Rattle.propagation.specs.Private.{Ranges, Differs}
 
 in-depth : (s : Segment) → shadowKept s ≡ true → unscreened s ≡ false → inShadow s ≡ true → pathDifference s ≤ mostShadow
@@ -47,6 +49,15 @@ range-refused s e = ranges-first s _ ∙ ap (λ (x : Check). firstRefused x (unl
 pub range-kept : (s : Segment) → rangeCheck s ≡ Accepted → segmentCheck s ≡ unless (shadowKept s) Shadow (unless (readingsKept s) Reading Accepted)
 unfolding segmentCheck firstRefused
 range-kept s e = ranges-first s _ ∙ ap (λ (x : Check). firstRefused x (unless (shadowKept s) Shadow (unless (readingsKept s) Reading Accepted))) e
+
+-- ---- a check, and its number
+
+pub segment-number : (s : Segment) → checkNumber (segmentCheck s) ≡ lowestNumber (segmentLines s)
+unfolding segmentCheck segmentLines lowestNumber checkNumber numberOf
+segment-number s = ranges-number s _ ((6, shadowKept s) ∷ (7, readingsKept s) ∷ []) (simp unless-number)
+
+pub segment-checked : (s : Segment) {r : Check} → r ≡ segmentCheck s → (r ≡ segmentCheck s) × (checkNumber r ≡ lowestNumber (segmentLines s))
+segment-checked s e = (e, ap checkNumber e ∙ segment-number s)
 
 -- line 6 by the path difference, taken only where there is a screen
 pub shadow-is : (s : Segment) {m : ℕ} {a b : Bool} → Differs s m → a ≡ unscreened s → b ≡ inShadow s → (a || (not b || leb m mostShadow)) ≡ shadowKept s

@@ -16,8 +16,8 @@ use Rattle.figures.specs.declared.Segment.{Segment}
 use Rattle.figures.specs.declared.Refusal.{Refusal}
 use Rattle.figures.specs.declared.Check.{Check}
 use Rattle.figures.specs.declared.Check.the-variants.{Accepted, Refused}
-use Rattle.figures.specs.Refusal.{isAccepted}
-use Rattle.figures.specs.Rules.{within}
+use Rattle.figures.specs.Refusal.{isAccepted, checkNumber}
+use Rattle.figures.specs.Rules.{within, lowestNumber}
 use Rattle.figures.specs.Bounds.{Below}
 use Rattle.figures.specs.Private.{Signed, Exactly}
 use Rattle.figures.proofs.Signs.{read, below-more, below-back, natural-below, from-below, signed-below, returned, exactly-read, Sum, summand, added, summed}
@@ -30,12 +30,12 @@ use Rattle.propagation.specs.Distance.{distanceFence}
 use Rattle.propagation.specs.Air.{airFence}
 use Rattle.propagation.specs.Angle.{angleFence}
 use Rattle.propagation.specs.Opposite.{oppositeFence}
-use Rattle.propagation.specs.Check.{segmentCheck}
+use Rattle.propagation.specs.Check.{segmentCheck, segmentLines}
 use Rattle.propagation.specs.Ground.{pathFence, groundMark, SegmentMark, SegmentMarkBy}
 use Rattle.propagation.specs.Propagation.{facadeTenths, segmentPartsBy, noSegmentParts, segmentBreakdownBy, segmentBreakdownOf, addedUp, propagationOf, noPropagation, segmentFence, refusalJudgement, judgementOf}
 use Rattle.propagation.specs.Results.{PartsBelow, SegmentParted, JudgementAllowed}
 use Rattle.propagation.specs.Private.{Ranges, PathTenths, FourAdded, sumOf}
-use Rattle.propagation.proofs.Chain.{ranges}
+use Rattle.propagation.proofs.Chain.{ranges, segment-number}
 use Rattle.propagation.proofs.DistanceStep.{distance-lies}
 use Rattle.propagation.proofs.AirStep.{air-lies}
 use Rattle.propagation.proofs.AngleRange.{angle-lies}
@@ -233,6 +233,10 @@ module _ (s : Segment) where
   pub judgement-allowed : {r : Judgement} → r ≡ judgementOf s → JudgementAllowed s r
   unfolding judgementOf propagationOf
   judgement-allowed i = record { mark = rw i (own-mark-allowed s) }
+
+  pub judgement-number : {r : Judgement} → r ≡ judgementOf s → checkNumber (r .check) ≡ lowestNumber (segmentLines s)
+  unfolding judgementOf
+  judgement-number i = ap (λ (r : Judgement). checkNumber (r .check)) i ∙ segment-number s
 
 -- ---- near its fence
 

@@ -9,7 +9,9 @@ mod opposite;
 mod screen;
 
 ghost use mathlib.Core.Path.{_≡_};
-ghost use Rattle.propagation.specs.Check.{segmentCheck};
+ghost use Rattle.figures.specs.Refusal.{numberOf, checkNumber};
+ghost use Rattle.figures.specs.Rules.{lowestNumber};
+ghost use Rattle.propagation.specs.Check.{segmentCheck, segmentLines};
 ghost use Rattle.propagation.specs.Ground.{groundMark, SegmentMark};
 ghost use Rattle.propagation.specs.Propagation.{segmentPartsBy, segmentBreakdownOf, propagationOf, refusalJudgement, judgementOf};
 ghost use Rattle.propagation.specs.Results.{PartsBelow, SegmentParted, JudgementAllowed};
@@ -50,7 +52,8 @@ pub struct Judgement {
 
 // The first line that a segment does not keep.
 pub fn segment_check(s: Segment) -> Check
-    ensures { λ r. ⌜ r ≡ segmentCheck s ⌝ }
+    ensures is { λ r. ⌜ r ≡ segmentCheck s ⌝ }
+    ensures number { λ r. ⌜ checkNumber r ≡ lowestNumber (segmentLines s) ⌝ }
 {
     match check::judge(s) {
         Judged::Kept(_) => Check::Accepted,
@@ -137,7 +140,8 @@ fn sum_of(b: SegmentBreakdown) -> Propagation
 
 // A refusal, with nothing added.
 pub fn refusal_judgement(refusal: Refusal) -> Judgement
-    ensures { λ r. ⌜ r ≡ refusalJudgement refusal ⌝ }
+    ensures is { λ r. ⌜ r ≡ refusalJudgement refusal ⌝ }
+    ensures number { λ r. ⌜ checkNumber (r .check) ≡ numberOf refusal ⌝ }
 {
     Judgement {
         check: Check::Refused(refusal),
@@ -152,6 +156,7 @@ pub fn refusal_judgement(refusal: Refusal) -> Judgement
 pub fn judged(s: Segment) -> Judgement
     ensures is { λ r. ⌜ r ≡ judgementOf s ⌝ }
     ensures allowed { λ r. ⌜ JudgementAllowed s r ⌝ }
+    ensures number { λ r. ⌜ checkNumber (r .check) ≡ lowestNumber (segmentLines s) ⌝ }
 {
     match check::judge(s) {
         Judged::Kept(m) => {

@@ -1,7 +1,7 @@
 -- The request for levels: which refusal applies, what the cells hold, and that levels as computed from a plan give the plan's answer.
 -- Assumes nothing.
-use mathlib.Core.Path.{_≡_, refl, sym, ap, ap₂, _∙_}
-use mathlib.Core.List.{List, _++_, map, append-assoc}
+use mathlib.Core.Path.{_≡_, refl, ap, _∙_}
+use mathlib.Core.List.{List, _++_, append-assoc}
 use mathlib.Core.Bool.{Bool, false}
 use Prim.Native.Nat.{ℕ, _+_, _<_, _≤_}
 use native.Mathlib.Omega.{arith}
@@ -18,14 +18,16 @@ use Rattle.figures.specs.declared.Refusal.{Refusal}
 use Rattle.figures.specs.declared.Refusal.the-variants.{NoEntry, FewCells}
 use Rattle.figures.specs.declared.Check.{Check}
 use Rattle.figures.specs.declared.Check.the-variants.{Accepted, Refused}
-use Rattle.figures.specs.Refusal.{unless}
+use Rattle.figures.specs.Refusal.{unless, numberOf, checkNumber}
+use Rattle.figures.specs.Rules.{lowestNumber}
+use Rattle.figures.proofs.Numbers.{unless-number}
 use Rattle.propagation.specs.Propagation.{propagationOf}
 use Rattle.study.specs.declared.Study.{Study}
 use Rattle.study.specs.Plan.{Plan, planOf, segmentAt}
 use Rattle.request.specs.declared.PeriodResult.{PeriodResult}
 use Rattle.request.specs.declared.Answer.{Answer}
 use Rattle.request.specs.Levels.{levelsOf, levelAt, ownMarks, MarksAllowed}
-use Rattle.request.specs.Request.{cellsNeeded, requestCheck, levelsCheck, laid, cellsBy, answerOf, refusedBy, periodFrom, checkFrom, AnsweredBy, Answered, AnsweredFrom}
+use Rattle.request.specs.Request.{cellsNeeded, requestCheck, requestNumber, levelsCheck, levelsNumber, laid, cellsBy, answerOf, refusedBy, periodFrom, checkFrom, AnsweredBy, Answered, AnsweredFrom}
 use Rattle.request.specs.Private.{placesOf}
 use Rattle.request.proofs.Cells.{cellsOf, cells-length}
 use Rattle.request.proofs.Results.{period-is, own-allowed}
@@ -44,6 +46,24 @@ module _ (entries needed n : ℕ) where
   pub enough-cells : (entries ≡ 0 → ⊥) → needed ≤ n → requestCheck entries needed n ≡ Accepted
   unfolding requestCheck unless
   enough-cells some h = simp (lt-ltb 0 entries (omega (arith, some)), le-leb needed n h)
+
+  request-number : checkNumber (requestCheck entries needed n) ≡ requestNumber entries needed n
+  unfolding requestCheck requestNumber lowestNumber checkNumber numberOf
+  request-number = simp unless-number
+
+-- an answer's check
+answer-check : (check : Check) (d n : PeriodResult) → answerOf check d n .check ≡ check
+unfolding answerOf refusedBy
+answer-check Accepted d n = refl
+answer-check (Refused r) d n = refl
+
+answer-number : (check : Check) (d n : PeriodResult) {r : Answer} → r ≡ answerOf check d n → checkNumber (r .check) ≡ checkNumber check
+answer-number check d n e = ap (λ (r : Answer). checkNumber (r .check)) e ∙ ap checkNumber (answer-check check d n)
+
+-- and what is asked of a plan
+pub plan-number : (plan : Plan) (n : ℕ) (d e : PeriodResult) → checkNumber (answerOf (levelsCheck plan n) d e .check) ≡ levelsNumber plan n
+unfolding levelsCheck levelsNumber
+plan-number plan n d e = answer-number (levelsCheck plan n) d e refl ∙ request-number (length (plan .entries)) (cellsNeeded (length (plan .entries))) n
 
 -- ---- levels as computed
 
@@ -71,6 +91,13 @@ module _ (day night : List ℤ) (places : List ℕ) (close : List Bool) (before 
       → d ≡ periodFrom Day day places close → n ≡ periodFrom Night night places close → AnsweredFrom day night places close before after (record { check = Accepted; day = d; night = n })
   unfolding laid answerOf
   accepted-from e a b d n = record { cells = both-laid a b ∙ rw e; answer = rw (d, n, e); day = mark-allowed day; night = mark-allowed night }
+
+-- an answer, and its number
+pub answered-from : {ds ns : List ℤ} {ps : List ℕ} {cs : List Bool} {before after : List ℤ} {r : Answer} → AnsweredFrom ds ns ps cs before after r → AnsweredFrom ds ns ps cs before after r × (checkNumber (r .check) ≡ requestNumber (length ds) (length ds + length ns) (length before))
+answered-from {ds} {ns} {before = before} a = (a, answer-number _ _ _ (a .answer) ∙ request-number (length ds) (length ds + length ns) (length before))
+
+pub answered : {st : Study} {before after : List ℤ} {r : Answer} → Answered st before after r → Answered st before after r × (checkNumber (r .check) ≡ levelsNumber (planOf st) (length before))
+answered {st} {before} a = (a, ap (λ (r : Answer). checkNumber (r .check)) (a .by .answer) ∙ plan-number (planOf st) (length before) _ _)
 
 -- ---- of a plan
 

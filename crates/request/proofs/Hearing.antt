@@ -12,7 +12,7 @@ use lib.Dec.{eqb}
 use lib.IntN.{ℤ, pos, negsuc}
 use lib.Signed.{leZ}
 use lib.ListN.{length, getD, set, take, replicate, length-set, getD-replicate}
-use lib.Seq.{take-all, getD-set-same, getD-set-other}
+use lib.Seq.{getD-set-same, getD-set-other}
 use Rattle.request.specs.Request.{soundsAt}
 use Rattle.request.specs.Private.{markedBy, SegmentsHeard}
 

@@ -1,10 +1,9 @@
 -- The levels of a study as its holdings give them: what its segments add, its entries' levels, and the answer from them.
 -- Assumes nothing.
-use mathlib.Core.Path.{_≡_, sym, ap, ap₂, _∙_, subst}
+use mathlib.Core.Path.{_≡_, sym, ap, _∙_, subst}
 use mathlib.Core.List.{List}
 use mathlib.Core.Bool.{Bool}
-use Prim.Native.Nat.{ℕ, _≤_}
-use native.Mathlib.Omega.{arith}
+use Prim.Native.Nat.{ℕ}
 use lib.IntN.{ℤ}
 use lib.ListN.{length, take, length-map}
 use Rattle.figures.specs.declared.Period.the-variants.{Day, Night}
@@ -15,7 +14,7 @@ use Rattle.study.specs.Plan.{Plan, planOf}
 use Rattle.study.proofs.Sizes.{Opens}
 use Rattle.request.specs.declared.Answer.{Answer}
 use Rattle.request.specs.Request.{Answered, AnsweredFrom}
-use Rattle.request.specs.Private.{cellFrom, placesOf, Propagated, Filled}
+use Rattle.request.specs.Private.{Propagated, Filled}
 use Rattle.request.proofs.Cells.{cells-length, cells-found}
 use Rattle.request.proofs.Answers.{Computed, Few, computed-answer, computed-marks}
 

@@ -19,6 +19,7 @@ use Rattle.figures.specs.declared.Refusal.the-variants.{NoEntry, FewCells}
 use Rattle.figures.specs.declared.Check.{Check}
 use Rattle.figures.specs.declared.Check.the-variants.{Accepted, Refused}
 use Rattle.figures.specs.Refusal.{unless}
+use Rattle.figures.specs.Rules.{lowestNumber}
 use Rattle.emission.specs.Emission.{raised, emissionOf}
 use Rattle.study.specs.declared.Study.{Study}
 use Rattle.request.specs.declared.PeriodResult.{PeriodResult}
@@ -36,8 +37,15 @@ cellsNeeded t = t + t
 unfoldable pub requestCheck : ℕ → ℕ → ℕ → Check
 requestCheck entries needed n = unless (ltb 0 entries) NoEntry (unless (leb needed n) FewCells Accepted)
 
+-- the same by 01's numbers
+unfoldable pub requestNumber : ℕ → ℕ → ℕ → ℕ
+requestNumber entries needed n = lowestNumber ((23, ltb 0 entries) ∷ (24, leb needed n) ∷ [])
+
 unfoldable pub levelsCheck : Plan → ℕ → Check
 levelsCheck plan n = requestCheck (length (plan .entries)) (cellsNeeded (length (plan .entries))) n
+
+unfoldable pub levelsNumber : Plan → ℕ → ℕ
+levelsNumber plan n = requestNumber (length (plan .entries)) (cellsNeeded (length (plan .entries))) n
 
 -- the day's levels, then the night's, in entry order, then what further cells held; on a refusal the cells as they were
 unfoldable pub laid : Check → List ℤ → List ℤ → List ℤ → List ℤ

@@ -7,8 +7,10 @@ ghost use lib.ListN.{length, getD, take};
 ghost use lib.Seq.{paste};
 ghost use Rattle.emission.specs.Emission.{raised};
 ghost use Rattle.emission.specs.Results.{SmallLevel};
+ghost use Rattle.figures.specs.Refusal.{numberOf, checkNumber};
+ghost use Rattle.study.specs.Plan.{planOf};
 ghost use Rattle.request.specs.Levels.{cellOf, limitOf, metBy};
-ghost use Rattle.request.specs.Request.{Answered, AnsweredFrom, entryCells, periodFrom, refusedBy};
+ghost use Rattle.request.specs.Request.{Answered, AnsweredFrom, requestNumber, levelsNumber, entryCells, periodFrom, refusedBy};
 ghost use Rattle.request.specs.Private.{Blank, Propagated, Filled, SegmentsHeard, CloseCount, AnyClose, CloseSegments, markedBy};
 use decibel::Level;
 use figures::Check;
@@ -208,7 +210,8 @@ fn period_of(period: Period, levels: &[i32], places: &[usize], close: &[bool]) -
 
 // A refusal, with two silent results.
 pub fn refusal_answer(refusal: Refusal) -> Answer
-    ensures { λ r. ⌜ r ≡ refusedBy refusal ⌝ }
+    ensures is { λ r. ⌜ r ≡ refusedBy refusal ⌝ }
+    ensures number { λ r. ⌜ checkNumber (r .check) ≡ numberOf refusal ⌝ }
 {
     let silent = PeriodResult {
         level: Level::Silent,
@@ -243,7 +246,8 @@ pub fn levels_from(
     close: &[bool],
     cells: &mut [i32],
 ) -> Answer
-    ensures { λ r. ⌜ AnsweredFrom (now (day .entry)) (now (night .entry)) (now (places .entry)) (now (close .entry)) (now (cells .entry)) (now (cells .exit)) r ⌝ }
+    ensures answered { λ r. ⌜ AnsweredFrom (now (day .entry)) (now (night .entry)) (now (places .entry)) (now (close .entry)) (now (cells .entry)) (now (cells .exit)) r ⌝ }
+    ensures number { λ r. ⌜ checkNumber (r .check) ≡ requestNumber (length (now (day .entry))) (length (now (day .entry)) + length (now (night .entry))) (length (now (cells .entry))) ⌝ }
 {
     if day.len() == 0 {
         return refusal_answer(Refusal::NoEntry);
@@ -314,7 +318,8 @@ fn fill(
 
 // Both periods' results, with the entries' levels in the first cells; on a refusal the cells are as they were.
 pub fn levels(study: Study, cells: &mut [i32]) -> Answer
-    ensures { λ r. ⌜ Answered study (now (cells .entry)) (now (cells .exit)) r ⌝ }
+    ensures answered { λ r. ⌜ Answered study (now (cells .entry)) (now (cells .exit)) r ⌝ }
+    ensures number { λ r. ⌜ checkNumber (r .check) ≡ levelsNumber (planOf study) (length (now (cells .entry))) ⌝ }
 {
     let held = holdings_of(study);
     let count = held.count;

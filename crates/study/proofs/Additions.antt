@@ -11,18 +11,20 @@ use Rattle.figures.specs.declared.Refusal.{Refusal}
 use Rattle.figures.specs.declared.Refusal.the-variants.{NoSegment, SegmentLimit, EntryLimit}
 use Rattle.figures.specs.declared.Check.{Check}
 use Rattle.figures.specs.declared.Check.the-variants.{Accepted, Refused}
-use Rattle.figures.specs.Refusal.{unless, firstRefused, isAccepted}
+use Rattle.figures.specs.Refusal.{numberOf, checkNumber, unless, firstRefused, isAccepted}
 use Rattle.figures.specs.Rules.{trainCheck}
+use Rattle.figures.proofs.Numbers.{state-number, train-number}
 use Rattle.propagation.specs.declared.Propagation.{Propagation}
 use Rattle.propagation.specs.declared.Judgement.{Judgement}
 use Rattle.propagation.specs.Check.{segmentCheck}
 use Rattle.propagation.specs.Ground.{SegmentMark, SegmentMarkBy}
 use Rattle.propagation.specs.Propagation.{propagationOf, noPropagation, refusalJudgement, judgementOf}
 use Rattle.propagation.specs.Results.{JudgementAllowed}
+use Rattle.propagation.proofs.Chain.{segment-number}
 use Rattle.propagation.proofs.SegmentSum.{none-added}
 use Rattle.study.specs.declared.Study.{Study}
 use Rattle.study.specs.declared.Added.{Added}
-use Rattle.study.specs.Add.{Limits, segmentLimit, segmentAnswer, segmentJudgement, SegmentJudgementAllowed, trainLimit, trainAnswer, answer}
+use Rattle.study.specs.Add.{Limits, segmentLimit, segmentAnswer, segmentNumber, segmentJudgement, SegmentJudgementAllowed, trainLimit, trainAnswer, trainNumber, answer, addSegment, addTrain}
 
 -- ---- the answer by its check
 
@@ -117,6 +119,43 @@ module _ (l : Limits) (count total : ℕ) (t : Train) where
         room = leb-false (l .entries) total (kept-first (leb (l .entries) total) EntryLimit Accepted rest);
         kept = both .1;
       }
+
+-- ---- an answer, and its number
+
+-- an addition's check is its answer's
+answered : (check : Check) (old new : Study) → answer check old new .check ≡ check
+unfolding answer
+answered Accepted old new = refl
+answered (Refused r) old new = refl
+
+module _ (l : Limits) (count : ℕ) (s : Segment) where
+  segment-answer-number : checkNumber (segmentAnswer l count s) ≡ segmentNumber l count s
+  unfolding segmentAnswer segmentLimit segmentNumber firstRefused numberOf
+  segment-answer-number = simp (state-number, segment-number)
+
+  pub segment-answered : {r : Check} → r ≡ segmentAnswer l count s → (r ≡ segmentAnswer l count s) × (checkNumber r ≡ segmentNumber l count s)
+  segment-answered e = (e, ap checkNumber e ∙ segment-answer-number)
+
+  pub judgement-number : {r : Judgement} → r ≡ segmentJudgement l count s → checkNumber (r .check) ≡ segmentNumber l count s
+  unfolding segmentJudgement
+  judgement-number e = ap (λ (r : Judgement). checkNumber (r .check)) e ∙ segment-answer-number
+
+module _ (l : Limits) (count total : ℕ) (t : Train) where
+  train-answer-number : checkNumber (trainAnswer l count total t) ≡ trainNumber l count total t
+  unfolding trainAnswer trainLimit trainNumber firstRefused numberOf
+  train-answer-number = simp (state-number, train-number)
+
+  pub train-answered : {r : Check} → r ≡ trainAnswer l count total t → (r ≡ trainAnswer l count total t) × (checkNumber r ≡ trainNumber l count total t)
+  train-answered e = (e, ap checkNumber e ∙ train-answer-number)
+
+module _ (l : Limits) (st : Study) where
+  pub segment-added : (s : Segment) {r : Added} → r ≡ addSegment l st s → (r ≡ addSegment l st s) × (checkNumber (r .check) ≡ segmentNumber l (st .count) s)
+  unfolding addSegment
+  segment-added s e = (e, ap (λ (r : Added). checkNumber (r .check)) e ∙ ap checkNumber (answered (segmentAnswer l (st .count) s) _ _) ∙ segment-answer-number l (st .count) s)
+
+  pub train-added : (t : Train) {r : Added} → r ≡ addTrain l st t → (r ≡ addTrain l st t) × (checkNumber (r .check) ≡ trainNumber l (st .count) (st .total) t)
+  unfolding addTrain
+  train-added t e = (e, ap (λ (r : Added). checkNumber (r .check)) e ∙ ap checkNumber (answered (trainAnswer l (st .count) (st .total) t) _ _) ∙ train-answer-number l (st .count) (st .total) t)
 
 -- ---- a segment's judgement: at the limit nothing is added, else it is the segment's own
 

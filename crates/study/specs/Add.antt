@@ -10,9 +10,9 @@ use Rattle.figures.specs.declared.Refusal.the-variants.{NoSegment, SegmentLimit
 use Rattle.figures.specs.declared.Check.{Check}
 use Rattle.figures.specs.declared.Check.the-variants.{Accepted, Refused}
 use Rattle.figures.specs.Refusal.{unless, firstRefused, isAccepted}
-use Rattle.figures.specs.Rules.{trainCheck}
+use Rattle.figures.specs.Rules.{trainCheck, lowestNumber, trainLines}
 use Rattle.propagation.specs.declared.Judgement.{Judgement}
-use Rattle.propagation.specs.Check.{segmentCheck}
+use Rattle.propagation.specs.Check.{segmentCheck, segmentLines}
 use Rattle.propagation.specs.Ground.{SegmentMarkBy}
 use Rattle.propagation.specs.Propagation.{propagationOf, noPropagation}
 use Rattle.study.specs.declared.Study.{Study}
@@ -34,6 +34,10 @@ segmentLimit l count = unless (not (leb (l .segments) count)) SegmentLimit Accep
 unfoldable pub segmentAnswer : Limits → ℕ → Segment → Check
 segmentAnswer l count s = firstRefused (segmentLimit l count) (segmentCheck s)
 
+-- its number: 21 at the limit, else the lowest that applies
+unfoldable pub segmentNumber : Limits → ℕ → Segment → ℕ
+segmentNumber l count s = cond (leb (l .segments) count) 21 (lowestNumber (segmentLines s))
+
 -- that answer, and what the segment adds where it is accepted
 unfoldable pub segmentJudgement : Limits → ℕ → Segment → Judgement
 segmentJudgement l count s =
@@ -53,6 +57,10 @@ trainLimit l count total = unless (not (eqb count 0)) NoSegment (unless (not (le
 -- likewise, then the train's own lines
 unfoldable pub trainAnswer : Limits → ℕ → ℕ → Train → Check
 trainAnswer l count total t = firstRefused (trainLimit l count total) (trainCheck t)
+
+-- its number: 20 without a segment, 22 at the limit, else the lowest that applies
+unfoldable pub trainNumber : Limits → ℕ → ℕ → Train → ℕ
+trainNumber l count total t = cond (eqb count 0) 20 (cond (leb (l .entries) total) 22 (lowestNumber (trainLines t)))
 
 -- the study with the segment after its last
 unfoldable pub withSegment : Study → Segment → Study

@@ -5,8 +5,9 @@ pub use lists::Holdings;
 pub use lists::holdings_of;
 ghost use mathlib.Core.Path.{_≡_};
 ghost use Prim.Native.Nat.{min};
+ghost use Rattle.figures.specs.Refusal.{checkNumber};
 ghost use Rattle.study.specs.Plan.{noSegment, noTrain, noEntry, emptyStudy, planOf, heldBy};
-ghost use Rattle.study.specs.Add.{ours, segmentLimit, segmentAnswer, segmentJudgement, SegmentJudgementAllowed, trainLimit, trainAnswer, addSegment, addTrain};
+ghost use Rattle.study.specs.Add.{ours, segmentLimit, segmentAnswer, segmentNumber, segmentJudgement, SegmentJudgementAllowed, trainLimit, trainAnswer, trainNumber, addSegment, addTrain};
 ghost use Rattle.study.specs.Run.{runFrom, listed};
 use figures::Check;
 use figures::Refusal;
@@ -40,7 +41,7 @@ pub struct Added {
 }
 
 // What stands in a place that no segment was added to.
-fn no_segment() -> Segment
+pub fn no_segment() -> Segment
     ensures { λ r. ⌜ r ≡ noSegment ⌝ }
 {
     Segment {
@@ -108,7 +109,8 @@ fn segment_limit(count: usize) -> Check
 
 // Whether a segment may be added to so many: 21 at the limit, then its own lines.
 pub fn segment_answer(count: usize, segment: Segment) -> Check
-    ensures { λ r. ⌜ r ≡ segmentAnswer ours count segment ⌝ }
+    ensures is { λ r. ⌜ r ≡ segmentAnswer ours count segment ⌝ }
+    ensures number { λ r. ⌜ checkNumber r ≡ segmentNumber ours count segment ⌝ }
 {
     let limit = segment_limit(count);
     figures::first_refused(limit, propagation::segment_check(segment))
@@ -118,6 +120,7 @@ pub fn segment_answer(count: usize, segment: Segment) -> Check
 pub fn segment_judgement(count: usize, segment: Segment) -> Judgement
     ensures is { λ r. ⌜ r ≡ segmentJudgement ours count segment ⌝ }
     ensures allowed { λ r. ⌜ SegmentJudgementAllowed ours count segment r ⌝ }
+    ensures number { λ r. ⌜ checkNumber (r .check) ≡ segmentNumber ours count segment ⌝ }
 {
     match segment_limit(count) {
         Check::Accepted => propagation::judged(segment),
@@ -127,7 +130,8 @@ pub fn segment_judgement(count: usize, segment: Segment) -> Judgement
 
 // The study with the segment after its last, or the refusal and the study as it was.
 pub fn add_segment(mut study: Study, segment: Segment) -> Added
-    ensures { λ r. ⌜ r ≡ addSegment ours study segment ⌝ }
+    ensures is { λ r. ⌜ r ≡ addSegment ours study segment ⌝ }
+    ensures number { λ r. ⌜ checkNumber (r .check) ≡ segmentNumber ours (study .count) segment ⌝ }
 {
     let at = study.count;
     let check = segment_answer(at, segment);
@@ -153,7 +157,8 @@ fn train_limit(count: usize, total: usize) -> Check
 
 // Whether a train may be added to so many segments and entries: 20 without a segment, 22 at the limit, then its own lines.
 pub fn train_answer(count: usize, total: usize, train: Train) -> Check
-    ensures { λ r. ⌜ r ≡ trainAnswer ours count total train ⌝ }
+    ensures is { λ r. ⌜ r ≡ trainAnswer ours count total train ⌝ }
+    ensures number { λ r. ⌜ checkNumber r ≡ trainNumber ours count total train ⌝ }
 {
     let limit = train_limit(count, total);
     figures::first_refused(limit, figures::ranges::train_check(train))
@@ -161,7 +166,8 @@ pub fn train_answer(count: usize, total: usize, train: Train) -> Check
 
 // The study with the train at its last segment, or the refusal and the study as it was.
 pub fn add_train(mut study: Study, train: Train) -> Added
-    ensures { λ r. ⌜ r ≡ addTrain ours study train ⌝ }
+    ensures is { λ r. ⌜ r ≡ addTrain ours study train ⌝ }
+    ensures number { λ r. ⌜ checkNumber (r .check) ≡ trainNumber ours (study .count) (study .total) train ⌝ }
 {
     let count = study.count;
     let at = study.total;

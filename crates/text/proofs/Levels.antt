@@ -81,9 +81,6 @@ module _ {plan : Plan} {tenths : List ℤ} {close : List Bool} {trains : List Tr
       go [] = refl
       go (e ∷ es) = ap (_∷_ (cellFrom p tenths e)) (go es)
 
-  pub worked-rows : length trains ≡ length places
-  worked-rows = ap length (w .train) ∙ length-map (plan .entries) (λ (e : Entry). e .train) ∙ sym (length-map (plan .entries) (λ (e : Entry). e .segment)) ∙ sym (ap length (w .places))
-
   pub worked-answer : length (plan .segments) ≤ 24 → length places ≤ 96 → {before after : List ℤ} {r : Answer}
       → AnsweredFrom (cellsIn Day tenths trains places) (cellsIn Night tenths trains places) places close before after r → PlanAnswered plan before after r
   worked-answer few rows q =

@@ -1,25 +1,21 @@
 -- A place in the working out of a text's lines: what is left gives the whole answer, and the arrays hold what was worked out.
 -- Assumes nothing.
-use mathlib.Core.Path.{_≡_, refl, sym, ap, _∙_}
+use mathlib.Core.Path.{_≡_, refl, sym, _∙_}
 use mathlib.Core.Bool.{Bool}
-use mathlib.Core.List.{List, [], _∷_}
-use Prim.Native.Nat.{ℕ, _+_, _-_, _≤_, _<_}
-use native.Mathlib.Omega.{arith}
+use mathlib.Core.List.{List, _∷_}
+use Prim.Native.Nat.{ℕ, _+_, _-_, _<_}
 use lib.IntN.{ℤ}
-use lib.ListN.{length, take, set, getD, drop}
+use lib.ListN.{set, drop}
 use mir.Syntax.{w16}
 use mir.Val.{toZ, ofZ}
-use Rattle.figures.specs.declared.Segment.{Segment}
 use Rattle.figures.specs.declared.Train.{Train}
 use Rattle.figures.specs.declared.Refusal.{Refusal}
-use Rattle.figures.specs.declared.Refusal.the-variants as R
 use Rattle.figures.specs.declared.Check.{Check}
 use Rattle.figures.specs.declared.Check.the-variants.{Accepted, Refused}
 use Rattle.figures.proofs.Kept.{refused-not}
 use Rattle.propagation.specs.declared.Propagation.{Propagation}
-use Rattle.propagation.specs.Propagation.{propagationOf}
 use Rattle.study.specs.declared.Study.{Study}
-use Rattle.study.specs.Plan.{planOf, emptyStudy}
+use Rattle.study.specs.Plan.{emptyStudy}
 use Rattle.study.specs.Add.{ours, segmentAnswer, trainAnswer, withSegment, withTrain, answer, addSegment, addTrain}
 use Rattle.study.proofs.Additions.{segment-taken, train-taken}
 use Rattle.request.proofs.Found.{tenths-back}
@@ -28,14 +24,14 @@ use Rattle.lines.specs.declared.fields.SegmentLine.{SegmentLine}
 use Rattle.lines.specs.declared.fields.SegmentLine.the-variants as S
 use Rattle.lines.specs.declared.fields.TrainLine.{TrainLine}
 use Rattle.lines.specs.declared.fields.TrainLine.the-variants as T
-use Rattle.text.specs.Text.{Line, ended, unended, linesOf, Kind, segmentKind, trainKind, trains, kindsOf, segmentAdds, trainAdds, addLine, acceptedWith, refusedAt, readLines}
+use Rattle.text.specs.Text.{Line, ended, unended, linesOf, Kind, segmentKind, trainKind, kindsOf, segmentAdds, trainAdds, addLine, refusedAt, readLines}
 use Rattle.text.specs.declared.SegmentStep.{SegmentStep}
 use Rattle.text.specs.declared.SegmentStep.the-variants as SS
 use Rattle.text.specs.declared.TrainStep.{TrainStep}
 use Rattle.text.specs.declared.TrainStep.the-variants as TS
-use Rattle.text.specs.Private.{Took, firstAdds, SegmentAt, TrainAt}
-use Rattle.text.proofs.Rest.{Rest, rest-segment, rest-none, rest-trains, rest-train, rest-after, rest-next, rest-refused, rest-over, rest-done}
-use Rattle.text.proofs.Worked.{WorkedTo, worked-none, worked-segment, worked-train}
+use Rattle.text.specs.Private.{SegmentAt, TrainAt}
+use Rattle.text.proofs.Rest.{Rest, rest-next, rest-refused}
+use Rattle.text.proofs.Worked.{WorkedTo, worked-segment, worked-train}
 
 -- ---- what was accepted has a place in its array
 

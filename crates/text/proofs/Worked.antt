@@ -1,12 +1,12 @@
 -- What was worked out of the lines so far: what each segment adds with its close mark, each entry's train and the place of its segment.
 -- Assumes nothing.
 use mathlib.Core.Path.{_≡_, refl, sym, ap, ap₂, _∙_}
-use mathlib.Core.Bool.{Bool, false}
+use mathlib.Core.Bool.{Bool}
 use mathlib.Core.List.{List, [], _∷_, _++_, map}
 use Prim.Native.Nat.{ℕ, _+_, _-_, _≤_, _<_}
 use native.Mathlib.Numerals.{add-one}
 use native.Mathlib.Omega.{arith}
-use lib.IntN.{ℤ, pos}
+use lib.IntN.{ℤ}
 use lib.ListN.{length, take, set, length-set, length-take}
 use lib.Seq.{take-suc-set, length-take-le}
 use Rattle.figures.specs.declared.Segment.{Segment}

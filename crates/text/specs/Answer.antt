@@ -2,16 +2,18 @@
 -- Assumes nothing.
 use mathlib.Core.Path.{_≡_}
 use mathlib.Core.List.{List}
+use mathlib.Core.Bool.{cond}
 use Prim.Native.Nat.{ℕ}
 use lib.IntN.{ℤ}
 use lib.ListN.{length}
 use Rattle.figures.specs.declared.Check.{Check}
 use Rattle.figures.specs.declared.Check.the-variants.{Accepted, Refused}
+use Rattle.figures.specs.Refusal.{checkNumber, isAccepted}
 use Rattle.request.specs.declared.Answer.{Answer}
 use Rattle.study.specs.Plan.{Plan, planOf}
 use Rattle.study.specs.Add.{ours}
 use Rattle.request.specs.Levels.{ownMarks, MarksAllowed}
-use Rattle.request.specs.Request.{levelsCheck, answerBy, cellsBy, silentResult}
+use Rattle.request.specs.Request.{levelsCheck, levelsNumber, answerBy, cellsBy, silentResult}
 use Rattle.text.specs.declared.TextAnswer.{TextAnswer}
 use Rattle.text.specs.Text.{readText}
 
@@ -36,6 +38,13 @@ planIn text = planOf (readText ours text .study)
 
 unfoldable pub textAnswer : List ℕ → ℕ → TextAnswer
 textAnswer text cells = let r = readText ours text in answerWith (r .check) (r .line) (planOf (r .study)) cells
+
+-- 01's number of a reading, and of a text with so many cells: the text's own come first
+unfoldable pub textNumber : List ℕ → ℕ
+textNumber text = checkNumber (readText ours text .check)
+
+unfoldable pub textAnswerNumber : List ℕ → ℕ → ℕ
+textAnswerNumber text cells = cond (isAccepted (readText ours text .check)) (levelsNumber (planIn text) cells) (textNumber text)
 
 -- the whole of it: by the program's own marks, and 01 allows these
 pub record TextAnswered (text : List ℕ) (before after : List ℤ) (r : TextAnswer) : Type 0 where

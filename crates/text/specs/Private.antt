@@ -15,6 +15,7 @@ use Rattle.figures.specs.declared.Check.the-variants.{Accepted, Refused}
 use Rattle.propagation.specs.Propagation.{propagationOf}
 use Rattle.study.specs.declared.Entry.{Entry}
 use Rattle.study.specs.declared.Study.{Study}
+use Rattle.study.specs.declared.Added.{Added}
 use Rattle.study.specs.Plan.{Plan, planOf, emptyStudy}
 use Rattle.study.specs.Add.{ours, withSegment, withTrain}
 use Rattle.request.specs.declared.Answer.{Answer}
@@ -81,6 +82,12 @@ pub record Took (kind : Kind) (st : Study) (text : List ℕ) (at next : ℕ) (ne
 pub record LineAdds (kind : Kind) (st : Study) (text : List ℕ) (at : ℕ) (r : LineAdded) : Type 0 where
   pub taken : r .check ≡ Accepted → Took kind st text at (r .next) (r .study)
   pub fault : (f : Refusal) → r .check ≡ Refused f → firstAdds kind st (linesOf (drop at text)) ≡ Refused f
+
+abbrev pub lineAdded : Added → ℕ → LineAdded
+lineAdded added next = record { check = added .check; next = next; study = added .study }
+
+abbrev pub lineRefused : Refusal → ℕ → Study → LineAdded
+lineRefused f at st = record { check = Refused f; next = at; study = st }
 
 -- whatever the study of so many segments
 abbrev pub SegmentAt : ℕ → List ℕ → ℕ → SegmentStep → Type 0

@@ -2,11 +2,12 @@
 ghost use mathlib.Core.Path.{_≡_};
 ghost use Prim.Native.Nat.{_≤_};
 ghost use lib.ListN.{length, drop, take};
+ghost use Rattle.figures.specs.Refusal.{checkNumber};
 ghost use Rattle.study.specs.Add.{ours};
 ghost use Rattle.study.specs.Plan.{emptyStudy};
-ghost use Rattle.text.specs.Text.{Kind, segmentKind, trainKind, acceptedWith, refusedAt, readLines, kindsOf, linesOf, readText};
-ghost use Rattle.text.specs.Answer.{atLine, TextAnswered};
-ghost use Rattle.text.specs.Private.{faultOf, SegmentFieldsAt, TrainFieldsAt, SegmentAt, TrainAt, LineAdds, Opened, Answers, refusedAnswer, WorkedAnswer};
+ghost use Rattle.text.specs.Text.{segmentKind, trainKind, acceptedWith, refusedAt, readLines, kindsOf, linesOf, readText};
+ghost use Rattle.text.specs.Answer.{atLine, textNumber, textAnswerNumber, TextAnswered};
+ghost use Rattle.text.specs.Private.{faultOf, SegmentFieldsAt, TrainFieldsAt, SegmentAt, TrainAt, LineAdds, lineAdded, lineRefused, Opened, Answers, refusedAnswer, WorkedAnswer};
 use figures::Check;
 use figures::Refusal;
 use figures::Segment;
@@ -24,6 +25,7 @@ use request::PeriodResult;
 use request::entry_cells;
 use request::levels_from;
 use request::refusal_answer;
+use study::Added;
 use study::MOST_ENTRIES;
 use study::MOST_SEGMENTS;
 use study::Study;
@@ -134,23 +136,34 @@ fn train_fields(text: &[u8], at: usize) -> TrainFields
     TrainFields::Found(train, end + 1)
 }
 
+// An addition, with where the next line starts.
+fn line_added(added: Added, next: usize) -> LineAdded
+    ensures { λ r. ⌜ r ≡ lineAdded added next ⌝ }
+{
+    let check = added.check;
+    let study = added.study;
+    LineAdded { check, next, study }
+}
+
+// A line that could not be read: nothing is added.
+fn line_refused(refusal: Refusal, at: usize, study: Study) -> LineAdded
+    ensures { λ r. ⌜ r ≡ lineRefused refusal at study ⌝ }
+{
+    LineAdded {
+        check: Check::Refused(refusal),
+        next: at,
+        study,
+    }
+}
+
 // The study with the segment's line at a position.
 fn add_segment_line(text: &[u8], at: usize, study: Study) -> LineAdded
     requires { ⌜ at ≤ length (now text) ⌝ }
     ensures { λ r. ⌜ LineAdds segmentKind study (now (text .entry)) at r ⌝ }
 {
     match segment_fields(text, at) {
-        SegmentFields::Found(segment, next) => {
-            let added = add_segment(study, segment);
-            let check = added.check;
-            let study = added.study;
-            LineAdded { check, next, study }
-        }
-        SegmentFields::Refused(refusal) => LineAdded {
-            check: Check::Refused(refusal),
-            next: at,
-            study,
-        },
+        SegmentFields::Found(segment, next) => line_added(add_segment(study, segment), next),
+        SegmentFields::Refused(refusal) => line_refused(refusal, at, study),
     }
 }
 
@@ -160,17 +173,8 @@ fn add_train_line(text: &[u8], at: usize, study: Study) -> LineAdded
     ensures { λ r. ⌜ LineAdds trainKind study (now (text .entry)) at r ⌝ }
 {
     match train_fields(text, at) {
-        TrainFields::Found(train, next) => {
-            let added = add_train(study, train);
-            let check = added.check;
-            let study = added.study;
-            LineAdded { check, next, study }
-        }
-        TrainFields::Refused(refusal) => LineAdded {
-            check: Check::Refused(refusal),
-            next: at,
-            study,
-        },
+        TrainFields::Found(train, next) => line_added(add_train(study, train), next),
+        TrainFields::Refused(refusal) => line_refused(refusal, at, study),
     }
 }
 
@@ -258,7 +262,8 @@ fn read_opening(text: &[u8], counts: &mut [usize]) -> Opening
 
 // A whole text: its study, or the first line at fault.
 pub fn read_text(text: &[u8]) -> Reading
-    ensures { λ r. ⌜ r ≡ readText ours (now (text .entry)) ⌝ }
+    ensures is { λ r. ⌜ r ≡ readText ours (now (text .entry)) ⌝ }
+    ensures number { λ r. ⌜ checkNumber (r .check) ≡ textNumber (now (text .entry)) ⌝ }
 {
     let mut counts = [0usize; MOST_SEGMENTS];
     match read_opening(text, &mut counts) {
@@ -358,10 +363,10 @@ fn answer_lines(text: &[u8], start: usize, counts: &[usize], cells: &mut [i32]) 
     let mut close = [false; MOST_SEGMENTS];
     let mut trains = [no_train(); MOST_ENTRIES];
     let mut places = [0usize; MOST_ENTRIES];
-    let mut total = 0;
     let mut at = start;
     let mut line = SECOND_LINE;
     let mut s = 0;
+    let mut total = 0;
     'reading: loop {
         if counts.len() <= s {
             if at < text.len() {
@@ -402,7 +407,8 @@ fn answer_lines(text: &[u8], start: usize, counts: &[usize], cells: &mut [i32]) 
 // From a text to its levels: the reading's refusal first, then the request's, else the levels in the cells and both results.
 // On a refusal the cells are as they were.
 pub fn text_levels(text: &[u8], cells: &mut [i32]) -> TextAnswer
-    ensures { λ r. ⌜ TextAnswered (now (text .entry)) (now (cells .entry)) (now (cells .exit)) r ⌝ }
+    ensures answered { λ r. ⌜ TextAnswered (now (text .entry)) (now (cells .entry)) (now (cells .exit)) r ⌝ }
+    ensures number { λ r. ⌜ checkNumber (r .check) ≡ textAnswerNumber (now (text .entry)) (length (now (cells .entry))) ⌝ }
 {
     let mut counts = [0usize; MOST_SEGMENTS];
     match read_opening(text, &mut counts) {

@@ -6,7 +6,7 @@ use Rattle.figures.specs.declared.Check.the-variants.{Accepted, Refused}
 use Rattle.propagation.specs.Check.{segmentCheck}
 use Rattle.propagation.specs.Private.{Differs, Judges}
 use Rattle.propagation.proofs.Chain.{ranges}
-use Rattle.propagation.proofs.SegmentSum.{judged-kept, judged-refused, judgement-allowed}
+use Rattle.propagation.proofs.SegmentSum.{judged-kept, judged-refused, judgement-allowed, judgement-number}
 use Rattle.propagation.proofs.judged.Statement.{statement}
 use Rattle.propagation.proofs.judged.Tie as tie
 
@@ -29,10 +29,10 @@ sum-of-requires : tie.Need-sum-of-requires
 sum-of-requires c κs = c .parts-of .ensures .small
 
 returns : tie.Need-returns
-returns c = let parts = c .before in let i = judged-kept _ (kept (parts .before .before) .0) (parts .parts-of .ensures) (c .sum-of .ensures) in (i, judgement-allowed _ i)
+returns c = let parts = c .before in let i = judged-kept _ (kept (parts .before .before) .0) (parts .parts-of .ensures) (c .sum-of .ensures) in (i, (judgement-allowed _ i, judgement-number _ i))
 
 returns-2 : tie.Need-returns-2
-returns-2 c = let i = c .refusal-judgement .ensures ∙ judged-refused _ (refused (c .before .before)) in (i, judgement-allowed _ i)
+returns-2 c = let i = c .refusal-judgement .ensures .0 ∙ judged-refused _ (refused (c .before .before)) in (i, (judgement-allowed _ i, judgement-number _ i))
 
 pub judged-spec : {M : Type 1} → statement M
 judged-spec = tie.close (tie.spec (λ c κs. search needs) (λ c. search needs) parts-of-requires sum-of-requires (λ c. search needs) (λ c κs. search needs) returns returns-2)

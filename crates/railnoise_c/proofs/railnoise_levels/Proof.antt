@@ -8,7 +8,7 @@ use Rattle.railnoise_c.proofs.railnoise_levels.Tie as tie
 
 returns : tie.Need-returns
 returns c =
-    let levels = c .before .before .text-levels .ensures in
+    let levels = c .before .before .text-levels .ensures .0 in
     record { answer = c .answer-of .ensures ∙ ap exported (levels .answer); cells = levels .cells; allowed = levels .allowed }
 
 pub railnoise-levels-spec : {M : Type 1} → statement M

@@ -23,7 +23,7 @@ returns c =
     let put = c .before .before in
     let told = answered put in
     let levels = told .before .before .before in
-    text-answered (start-of levels .args .text .now) (levels .text-levels .ensures) refl (told .enum-told .given .1) (put .put-results .ensures .0) (put .put-results .ensures .1)
+    text-answered (start-of levels .args .text .now) (levels .text-levels .ensures .0) refl (told .enum-told .given .1) (put .put-results .ensures .0) (put .put-results .ensures .1)
 
 returns-2 : tie.Need-returns-2
 returns-2 c =
@@ -32,7 +32,7 @@ returns-2 c =
     let told = refused put in
     let levels = told .before .before .before in
     let line : Fits w64 (levels .text-levels .result .line) = search needs in
-    text-refused (start-of levels .args .text .now) (told .check .given .0 .0) (levels .text-levels .ensures) refl (told .check .given .1) (line .fits) (put .put-refusal .ensures) (notice .notice .ensures)
+    text-refused (start-of levels .args .text .now) (told .check .given .0 .0) (levels .text-levels .ensures .0) refl (told .check .given .1) (line .fits) (put .put-refusal .ensures) (notice .notice .ensures)
 
 pub report-spec : {M : Type 1} → statement M
 report-spec =

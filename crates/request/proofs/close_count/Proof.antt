@@ -6,7 +6,7 @@ use Prim.Native.Nat.{_≤_, _-_}
 use native.Mathlib.Numerals.{add-one}
 use mathlib.Core.Bool.{false, _&&_}
 use mathlib.Core.Path.{_≡_, refl}
-use lib.ListN.{length, getD}
+use lib.ListN.{getD}
 use Rattle.request.specs.Request.{countTo}
 use Rattle.request.proofs.close_count.Statement.{statement}
 use Rattle.request.proofs.close_count.Tie as tie

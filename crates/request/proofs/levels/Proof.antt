@@ -2,13 +2,13 @@
 -- Assumes nothing.
 use borrow.Author.Needs.{needs}
 use native.Mathlib.Omega.{arith}
-use mathlib.Core.Path.{_≡_, refl, sym, _∙_}
+use mathlib.Core.Path.{refl}
 use Prim.Native.Nat.{_≤_}
 use Rattle.request.proofs.Studies.{computed, day-length, night-length, place-length, opened-propagated, opened-filled, answered-study}
 use Rattle.study.specs.declared.Study.{Study}
 use Rattle.study.specs.Plan.{planOf}
 use Rattle.study.proofs.Sizes.{Opens, opens, few-segments, few-entries}
-use Rattle.request.proofs.Answers.{Few}
+use Rattle.request.proofs.Answers.{Few, answered}
 use Rattle.request.proofs.levels.Statement.{statement}
 use Rattle.request.proofs.levels.Tie as tie
 
@@ -60,7 +60,8 @@ returns c =
     let places = c .before .before .before .before in
     let f = filled (places .before .before .before) in
     let read = read-at f in
-    answered-study (study-of read) (few read) (computed (opened read .total) (opened-propagated (opened (read-at f)) (propagated (f .before) .propagate .ensures)) (opened-filled (opened (read-at f)) (f .fill .ensures))) (c .before .levels-from .ensures)
+    answered
+    (answered-study (study-of read) (few read) (computed (opened read .total) (opened-propagated (opened (read-at f)) (propagated (f .before) .propagate .ensures)) (opened-filled (opened (read-at f)) (f .fill .ensures))) (c .before .levels-from .ensures .0))
 
 pub levels-spec : {M : Type 1} → statement M
 levels-spec =

@@ -3,10 +3,9 @@
 use borrow.Author.Needs.{needs}
 use native.Mathlib.Omega.{arith}
 use Prim.Native.Nat.{_≤_, _+_}
-use mathlib.Core.Path.{sym, _∙_}
 use lib.ListN.{length}
 use Rattle.figures.specs.declared.Refusal.the-variants.{NoEntry, FewCells}
-use Rattle.request.proofs.Answers.{no-entries, few-cells, enough-cells, refused-from, accepted-from}
+use Rattle.request.proofs.Answers.{no-entries, few-cells, enough-cells, refused-from, accepted-from, answered-from}
 use Rattle.request.proofs.levels_from.Statement.{statement}
 use Rattle.request.proofs.levels_from.Tie as tie
 
@@ -23,20 +22,23 @@ first-of c = c .before .before .before
 returns : tie.Need-returns
 returns c =
     let a = c .before .before .before .before .args in
-    refused-from (a .day .now) (a .night .now) (a .places .now) (a .close .now) (a .cells .now) NoEntry (no-entries (length (a .day .now)) _ (length (a .cells .now)) (c .before .if1 .taken)) (c .refusal-answer .ensures)
+    answered-from
+    (refused-from (a .day .now) (a .night .now) (a .places .now) (a .close .now) (a .cells .now) NoEntry (no-entries (length (a .day .now)) _ (length (a .cells .now)) (c .before .if1 .taken)) (c .refusal-answer .ensures .0))
 
 returns-2 : tie.Need-returns-2
 returns-2 c =
     let some = c .before .before in
     let a = start-of some .args in
-    refused-from (a .day .now) (a .night .now) (a .places .now) (a .close .now) (a .cells .now) FewCells (few-cells (length (a .day .now)) _ (length (a .cells .now)) (some .if1 .left) (omega (arith, c .before .if2 .taken))) (c .refusal-answer2 .ensures)
+    answered-from
+    (refused-from (a .day .now) (a .night .now) (a .places .now) (a .close .now) (a .cells .now) FewCells (few-cells (length (a .day .now)) _ (length (a .cells .now)) (some .if1 .left) (omega (arith, c .before .if2 .taken))) (c .refusal-answer2 .ensures .0))
 
 returns-3 : tie.Need-returns-3
 returns-3 c =
     let some = c .before .before .before in
     let a = start-of some .args in
-    refused-from (a .day .now) (a .night .now) (a .places .now) (a .close .now) (a .cells .now) FewCells
-    (few-cells (length (a .day .now)) _ (length (a .cells .now)) (some .if1 .left) (omega (arith, c .before .before .if2 .left, c .before .if3 .taken))) (c .refusal-answer3 .ensures)
+    answered-from
+    (refused-from (a .day .now) (a .night .now) (a .places .now) (a .close .now) (a .cells .now) FewCells
+    (few-cells (length (a .day .now)) _ (length (a .cells .now)) (some .if1 .left) (omega (arith, c .before .before .if2 .left, c .before .if3 .taken))) (c .refusal-answer3 .ensures .0))
 
 -- the cells have room for both
 room : (c : tie.Else3) → let a = start-of (c .before .before) .args in length (a .day .now) + length (a .night .now) ≤ length (a .cells .now)
@@ -55,8 +57,9 @@ returns-4 c =
     let enough = enough-of first in
     let some = enough .before .before in
     let a = start-of some .args in
-    accepted-from (a .day .now) (a .night .now) (a .places .now) (a .close .now) (a .cells .now) (enough-cells (length (a .day .now)) _ (length (a .cells .now)) (some .if1 .left) (room enough))
-    (first .write .ensures) (second .write2 .ensures) (c .before .period-of .ensures) (c .period-of2 .ensures)
+    answered-from
+    (accepted-from (a .day .now) (a .night .now) (a .places .now) (a .close .now) (a .cells .now) (enough-cells (length (a .day .now)) _ (length (a .cells .now)) (some .if1 .left) (room enough))
+    (first .write .ensures) (second .write2 .ensures) (c .before .period-of .ensures) (c .period-of2 .ensures))
 
 pub levels-from-spec : {M : Type 1} → statement M
 levels-from-spec =

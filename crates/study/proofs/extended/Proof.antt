@@ -41,7 +41,7 @@ loop2-again c =
     let h : v .i < length (planOf st .entries) = omega arith in
     let same = plan-entry st (v .i) h in (
       omega arith,
-      ⊎-elim (λ w. train-tried (planOf st) h (v .inv .1) same (w .0 .taken) (w .2 .ensures) (w .4)) (λ w. entry-passed (planOf st) h (v .inv .1) same (w .0 .left) (w .1)) (c .if1 .came),
+      ⊎-elim (λ w. train-tried (planOf st) h (v .inv .1) same (w .0 .taken) (w .2 .ensures .0) (w .4)) (λ w. entry-passed (planOf st) h (v .inv .1) same (w .0 .left) (w .1)) (c .if1 .came),
     )
 
 loop-again : tie.Need-loop-again Inv-loop2 μ-loop2 Inv-loop μ-loop
@@ -52,7 +52,7 @@ loop-again c =
     let a = outer .before .before .before .args in
     let st = heldBy (a .t2) (a .count) (a .t4) (a .total) in
     let h : v .k < length (planOf st .segments) = omega arith in
-    (omega arith, v .inv .1, segment-tried (planOf st) h (v .inv .2) (plan-segment st (v .k) h) (tried .add-segment .ensures) (omega arith) (c .before .loop2 .inv .1))
+    (omega arith, v .inv .1, segment-tried (planOf st) h (v .inv .2) (plan-segment st (v .k) h) (tried .add-segment .ensures .0) (omega arith) (c .before .loop2 .inv .1))
 
 pub extended-spec : {M : Type 1} → statement M
 extended-spec =

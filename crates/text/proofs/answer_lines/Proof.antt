@@ -1,7 +1,7 @@
 -- `text::answer_lines` meets its contract. Both loops' invariant: what is left to read gives the whole answer, the arrays hold what was worked out, and the cells are as they were.
 -- Assumes nothing.
 use borrow.Author.Needs.{needs}
-use mathlib.Core.Path.{_≡_, refl, sym, ap, _∙_}
+use mathlib.Core.Path.{_≡_, refl, sym, ap}
 use Prim.Native.Nat.{_+_, _-_, _≤_, _<_}
 use native.Mathlib.Omega.{arith}
 use lib.ListN.{length, drop, take}
@@ -16,18 +16,18 @@ use Rattle.text.proofs.answer_lines.Statement.{statement}
 use Rattle.text.proofs.answer_lines.Tie as tie
 
 abbrev Inv-loop : tie.InvT-loop
-Inv-loop text start counts cells tenths close trains₀ places₀ total₀ at₀ line₀ s counter₀ end ts places total at line counter =
+Inv-loop text start counts cells tenths close trains₀ places₀ at₀ line₀ s total₀ counter₀ end ts places at line total counter =
     (counter ≤ end) × Reached text start counts tenths close ts places (s + 1) total at line (trains (end - counter) (kindsOf (drop (s + 1) counts)))
 
 abbrev μ-loop : tie.MeasureT-loop
-μ-loop text start counts cells tenths close trains₀ places₀ total₀ at₀ line₀ s counter₀ end ts places total at line counter = end - counter
+μ-loop text start counts cells tenths close trains₀ places₀ at₀ line₀ s total₀ counter₀ end ts places at line total counter = end - counter
 
 abbrev Inv-reading : tie.InvT-reading
-Inv-reading text start counts cells₀ tenths₀ close₀ trains₀ places₀ total₀ at₀ line₀ s₀ cells tenths close ts places total at line s =
+Inv-reading text start counts cells₀ tenths₀ close₀ trains₀ places₀ at₀ line₀ s₀ total₀ cells tenths close ts places at line s total =
     (s ≤ length counts) × (cells ≡ cells₀) × Reached text start counts tenths close ts places s total at line (kindsOf (drop s counts))
 
 abbrev μ-reading : tie.MeasureT-reading
-μ-reading text start counts cells₀ tenths₀ close₀ trains₀ places₀ total₀ at₀ line₀ s₀ cells tenths close ts places total at line s = length counts - s
+μ-reading text start counts cells₀ tenths₀ close₀ trains₀ places₀ at₀ line₀ s₀ total₀ cells tenths close ts places at line s total = length counts - s
 
 -- the turn in which a segment was taken, and that in which a train was
 abbrev outer : tie.After-segment-at Inv-loop μ-loop Inv-reading μ-reading → tie.At-reading Inv-loop μ-loop Inv-reading μ-reading
@@ -45,12 +45,12 @@ heading c = added-of c .before .before
 abbrev calling : tie.After-known-told4 Inv-loop μ-loop Inv-reading μ-reading → tie.After-train-at Inv-loop μ-loop Inv-reading μ-reading
 calling c = c .before .before .before
 
--- the segment's line that an inner turn stands below, and the start
-abbrev above : tie.At-loop Inv-loop μ-loop Inv-reading μ-reading → tie.At-reading Inv-loop μ-loop Inv-reading μ-reading
-above l = outer (heading (l .before .before))
+-- the turn of the segment that an inner turn is for, and the start
+abbrev headed : tie.At-loop Inv-loop μ-loop Inv-reading μ-reading → tie.At-reading Inv-loop μ-loop Inv-reading μ-reading
+headed l = outer (heading (l .before .before))
 
-abbrev start : tie.At-reading Inv-loop μ-loop Inv-reading μ-reading → tie.Start Inv-loop μ-loop Inv-reading μ-reading
-start l = l .before .before .before .before
+abbrev beginning : tie.At-reading Inv-loop μ-loop Inv-reading μ-reading → tie.Start Inv-loop μ-loop Inv-reading μ-reading
+beginning l = l .before .before .before .before
 
 reading-holds : tie.Need-reading-holds Inv-loop μ-loop Inv-reading μ-reading
 reading-holds c =
@@ -72,10 +72,10 @@ train-room c =
 add-line : tie.Need-add-line Inv-loop μ-loop Inv-reading μ-reading
 add-line c =
     let l = outer (heading c) in
-    omega (arith, l .reading .inv .2 .rest .within, l .reading .inv .2 .rest .bound, start l .good .0 .1)
+    omega (arith, l .reading .inv .2 .rest .within, l .reading .inv .2 .rest .bound, beginning l .good .0 .1)
 
 mul-end : tie.Need-mul-end Inv-loop μ-loop Inv-reading μ-reading
-mul-end c = let l = outer (heading c) in omega (arith, heading c .before .if1 .left, start l .good .1 .1 .0 .1)
+mul-end c = let l = outer (heading c) in omega (arith, heading c .before .if1 .left, beginning l .good .1 .1 .0 .1)
 
 loop-holds : tie.Need-loop-holds Inv-loop μ-loop Inv-reading μ-reading
 loop-holds c =
@@ -89,22 +89,22 @@ loop-holds c =
 add-line-2 : tie.Need-add-line-2 Inv-loop μ-loop Inv-reading μ-reading
 add-line-2 c =
     let l = inner (calling c) in
-    omega (arith, l .loop .inv .1 .rest .within, l .loop .inv .1 .rest .bound, start (above l) .good .0 .1)
+    omega (arith, l .loop .inv .1 .rest .within, l .loop .inv .1 .rest .bound, beginning (headed l) .good .0 .1)
 
 add-counter : tie.Need-add-counter Inv-loop μ-loop Inv-reading μ-reading
-add-counter c = let l = inner (calling c) in omega (arith, l .before .shared-slice-known3 .given (above l .reading .s))
+add-counter c = let l = inner (calling c) in omega (arith, l .before .shared-slice-known3 .given (headed l .reading .s))
 
 loop-again : tie.Need-loop-again Inv-loop μ-loop Inv-reading μ-reading
 loop-again c =
     let h = calling c in
     let l = inner h in
     let here = reached-as (λ st r. rest-train _ (l .loop .counter) _ r (omega arith)) (l .loop .inv .1) in
-    (omega arith, reached-train here (c .before .train .given .1) (h .train-at .ensures) (above l .reading .s) refl)
+    (omega arith, reached-train here (c .before .train .given .1) (h .train-at .ensures) (headed l .reading .s) refl)
 
 reading-again : tie.Need-reading-again Inv-loop μ-loop Inv-reading μ-reading
 reading-again c =
     let l = c .before in
-    (omega arith, above l .reading .inv .1, reached-as (λ st r. rest-after _ (l .loop .counter) _ r (omega arith)) (l .loop .inv .1))
+    (omega arith, headed l .reading .inv .1, reached-as (λ st r. rest-after _ (l .loop .counter) _ r (omega arith)) (l .loop .inv .1))
 
 returns : tie.Need-returns Inv-loop μ-loop Inv-reading μ-reading
 returns c =
@@ -149,7 +149,7 @@ returns-4 c =
     let refusal = c .before .before in
     let h = refusal .before .before in
     let l = inner h in
-    refused-answers (above l .reading .inv .1) (train-at-fault (reached-as (λ st r. rest-train _ (l .loop .counter) _ r (omega arith)) (l .loop .inv .1)) (refusal .refusal2 .given .1) (h .train-at .ensures)) (c .refused-answer3 .ensures)
+    refused-answers (headed l .reading .inv .1) (train-at-fault (reached-as (λ st r. rest-train _ (l .loop .counter) _ r (omega arith)) (l .loop .inv .1)) (refusal .refusal2 .given .1) (h .train-at .ensures)) (c .refused-answer3 .ensures)
 
 pub answer-lines-spec : {M : Type 1} → statement M
 answer-lines-spec =
@@ -165,4 +165,4 @@ answer-lines-spec =
     (λ c. omega (arith, train-room c)) train-room (λ c. omega (arith, train-room c)) train-room (λ c. omega (arith, train-room c)) add-line-2 add-counter (λ c. omega arith) loop-again
     (λ c. omega arith) (λ c. omega arith) reading-again
     (λ c. ap length (c .before .before .before .reading .inv .1)) returns (λ c. search needs) returns-2
-    (λ c. ap length (outer (c .before .before .before .before) .reading .inv .1)) returns-3 (λ c. ap length (above (inner (c .before .before .before .before)) .reading .inv .1)) returns-4)
+    (λ c. ap length (outer (c .before .before .before .before) .reading .inv .1)) returns-3 (λ c. ap length (headed (inner (c .before .before .before .before)) .reading .inv .1)) returns-4)

@@ -1,10 +1,10 @@
 -- `text::read_text` meets its contract.
 -- Assumes nothing.
 use borrow.Author.Needs.{needs}
-use native.Mathlib.Omega.{arith}
 use mathlib.Core.Path.{refl, sym, _∙_}
 use lib.Seq.{length-take-le}
 use Rattle.text.proofs.Openings.{opening-refused, announced}
+use Rattle.text.proofs.TextAnswers.{text-numbered}
 use Rattle.text.proofs.read_text.Statement.{statement}
 use Rattle.text.proofs.read_text.Tie as tie
 
@@ -16,7 +16,8 @@ returns : tie.Need-returns
 returns c =
     let refusal = c .before .before in
     let o = opening (refusal .before .before) in
-    c .refused .ensures ∙ sym (opening-refused (o .before .before .before .args .text .now) _ (o .read-opening .ensures) (refusal .refusal .given .1))
+    let text = o .before .before .before .args .text .now in
+    text-numbered text (c .refused .ensures ∙ sym (opening-refused text _ (o .read-opening .ensures) (refusal .refusal .given .1)))
 
 -- the counts have their places
 room : tie.Need-array-share-prefix-counts
@@ -35,7 +36,8 @@ returns-2 : tie.Need-returns-2
 returns-2 c =
     let count = c .before .before .before in
     let o = opening (count .before .before) in
-    c .read-lines .ensures ∙ sym (announced (o .before .before .before .args .text .now) _ (o .read-opening .ensures) (count .count .given .1) .2)
+    let text = o .before .before .before .args .text .now in
+    text-numbered text (c .read-lines .ensures ∙ sym (announced text _ (o .read-opening .ensures) (count .count .given .1) .2))
 
 pub read-text-spec : {M : Type 1} → statement M
 read-text-spec =

@@ -1,7 +1,6 @@
 -- `text::segment_at` meets its contract: the judgement of the fields, or why there are none.
 -- Assumes nothing.
 use borrow.Author.Needs.{needs}
-use mathlib.Core.Path.{sym, ap, _∙_}
 use Rattle.text.proofs.Steps.{segment-read, segment-unread, judged-segment, judged-fault}
 use Rattle.text.proofs.segment_at.Statement.{statement}
 use Rattle.text.proofs.segment_at.Tie as tie

@@ -4,7 +4,7 @@ use borrow.Author.Needs.{needs}
 use mathlib.Core.Path.{refl, sym}
 use lib.Seq.{length-take-le}
 use Rattle.text.proofs.Openings.{opening-refused, announced}
-use Rattle.text.proofs.TextAnswers.{refused-answers, text-answered}
+use Rattle.text.proofs.TextAnswers.{refused-answers, text-answered, answer-number}
 use Rattle.text.proofs.text_levels.Statement.{statement}
 use Rattle.text.proofs.text_levels.Tie as tie
 
@@ -13,7 +13,7 @@ returns c =
     let refusal = c .before .before in
     let o = refusal .before .before .before in
     let text = o .before .before .before .args .text .now in
-    text-answered text (opening-refused text _ (o .read-opening .ensures) (refusal .refusal .given .1)) (refused-answers refl refl (c .refused-answer .ensures))
+    answer-number text (text-answered text (opening-refused text _ (o .read-opening .ensures) (refusal .refusal .given .1)) (refused-answers refl refl (c .refused-answer .ensures)))
 
 -- the counts have their places
 room : tie.Need-array-share-prefix-counts
@@ -34,7 +34,7 @@ returns-2 c =
     let count = called .before .before .before .before in
     let o = count .before .before .before in
     let text = o .before .before .before .args .text .now in
-    text-answered text (announced text _ (o .read-opening .ensures) (count .count .given .1) .2) (called .answer-lines .ensures)
+    answer-number text (text-answered text (announced text _ (o .read-opening .ensures) (count .count .given .1) .2) (called .answer-lines .ensures))
 
 pub text-levels-spec : {M : Type 1} → statement M
 text-levels-spec =

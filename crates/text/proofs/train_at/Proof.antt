@@ -24,14 +24,14 @@ returns-2 c =
     let answer = c .before .before in
     let found = fields answer in
     let read = found .before .before in
-    answered-train (train-read (found .train .given .1) (read .train-fields .ensures)) (sym (answer .train-answer .ensures) ∙ c .enum-told .given .1)
+    answered-train (train-read (found .train .given .1) (read .train-fields .ensures)) (sym (answer .train-answer .ensures .0) ∙ c .enum-told .given .1)
 
 returns-3 : tie.Need-returns-3
 returns-3 c =
     let answer = c .before .before .before in
     let found = fields answer in
     let read = found .before .before in
-    answered-fault (train-read (found .train .given .1) (read .train-fields .ensures)) (sym (answer .train-answer .ensures) ∙ c .before .refusal2 .given .1)
+    answered-fault (train-read (found .train .given .1) (read .train-fields .ensures)) (sym (answer .train-answer .ensures .0) ∙ c .before .refusal2 .given .1)
 
 pub train-at-spec : {M : Type 1} → statement M
 train-at-spec =

@@ -87,7 +87,7 @@ returns : tie.Need-returns Inv-loop μ-loop
 returns c plan few works =
     let called = c .before in
     let l = called .before .before .before .before in
-    worked-answer works few (l .before .loop .inv .1 .0) (rw (day-is l, night-is l) at (called .levels-from .ensures))
+    worked-answer works few (l .before .loop .inv .1 .0) (rw (day-is l, night-is l) at (called .levels-from .ensures .0))
 
 pub worked-answer-spec : {M : Type 1} → statement M
 worked-answer-spec =

@@ -26,7 +26,7 @@ difference-of-requires c κs = ranged _ Accepted (c .pre) .0
 check : (c : tie.After-unless2) → segmentCheck (start-of c .args .s) ≡ c .unless2 .result
 check c =
     let readings = readings-of c in
-    range-kept (start-of c .args .s) (start-of c .pre) ∙ sym (simp (c .unless2 .ensures, c .before .unless .ensures, readings .readings-kept .ensures, readings .before .shadow-kept .ensures))
+    range-kept (start-of c .args .s) (start-of c .pre) ∙ sym (simp (c .unless2 .ensures .0, c .before .unless .ensures .0, readings .readings-kept .ensures, readings .before .shadow-kept .ensures))
 
 returns : tie.Need-returns
 unfolding Judges
