@@ -8,8 +8,8 @@
  * C library.
  *
  * The function keeps no state: any number of threads may call it at the same time, each with its own
- * cells; the text may be shared. It allocates nothing, so there is nothing to free. Stack use: about
- * 16 kB.
+ * cells; the text may be shared. It allocates nothing, so there is nothing to free. A call takes less
+ * than 8 kB of stack.
  *
  * THE TEXT OF A STUDY has at most 16,384 bytes. It holds whole decimal numbers, one space between two of
  * them and a line feed after each line. A number has one to five digits, a minus if below zero, no spare

@@ -108,7 +108,7 @@ fn segment_limit(count: usize) -> Check
 }
 
 // Whether a segment may be added to so many: 21 at the limit, then its own lines.
-pub fn segment_answer(count: usize, segment: Segment) -> Check
+fn segment_answer(count: usize, segment: Segment) -> Check
     ensures is { λ r. ⌜ r ≡ segmentAnswer ours count segment ⌝ }
     ensures number { λ r. ⌜ checkNumber r ≡ segmentNumber ours count segment ⌝ }
 {
