@@ -27,7 +27,7 @@ use Rattle.writing.specs.Pages.{putEach, Put, PutEach}
 use Rattle.writing.proofs.Pages.{alone, also, also-each}
 use Rattle.report.specs.Bytes.{level}
 use Rattle.report.specs.Report.{cellsLent, reportOf}
-use Rattle.breakdown.specs.Lines.{figurePart, levelPart, pathPart, cellLevel, segmentParts, segmentNumber, entryParts}
+use Rattle.breakdown.specs.Lines.{figurePart, levelPart, pathPart, cellLevel, segmentParts, placeNumber, entryParts}
 use Rattle.breakdown.specs.Breakdown.{eachBelow, segmentsParts, cellsOf, entryAt, cellAt, entryLine, entriesParts, studyParts, textParts}
 
 pub silent-put : {before mid after name : List ℕ} {at i end : ℕ} {l : Level}
@@ -72,13 +72,13 @@ pub cell-figure : (z : ℤ) → ltZ z (negsuc 1999) ≡ false → Figure z ≡ c
 unfolding cellLevel
 cell-figure z e = rw e
 
-pub number-within : (k : ℕ) → k < 24 → k + 1 ≡ segmentNumber k
-unfolding segmentNumber
-number-within k h = rw (lt-ltb k 24 h)
+pub number-within : (k : ℕ) → k < ours .segments → k + 1 ≡ placeNumber k
+unfolding placeNumber
+number-within k h = rw (lt-ltb k (ours .segments) h)
 
-pub number-last : (k : ℕ) → 24 ≤ k → 24 ≡ segmentNumber k
-unfolding segmentNumber
-number-last k h = rw (le-ltb k 24 h)
+pub number-last : (k : ℕ) → ours .segments ≤ k → ours .segments ≡ placeNumber k
+unfolding placeNumber
+number-last k h = rw (le-ltb k (ours .segments) h)
 
 -- ---- one place after another
 
@@ -101,11 +101,11 @@ segments-same p q e = ap (λ (ss : List Segment). eachBelow (length ss) (λ k. s
 pub entries-same : (p q : Plan) (cells : List ℤ) → p .entries ≡ q .entries → entriesParts p cells ≡ entriesParts q cells
 unfolding entriesParts
 entries-same p q cells e =
-    ap (λ (es : List Entry). eachBelow (length es) (λ k. entryParts (k + 1) (segmentNumber (getD es k noEntry .segment)) (getD es k noEntry .train) (cellAt cells k) (cellAt cells (length es + k)))) e
+    ap (λ (es : List Entry). eachBelow (length es) (λ k. entryParts (k + 1) (placeNumber (getD es k noEntry .segment)) (getD es k noEntry .train) (cellAt cells k) (cellAt cells (length es + k)))) e
 
 -- an entry's line, from what was found of it
 pub entry-put : (plan : Plan) (cells : List ℤ) (k count : ℕ) {number : ℕ} {day night : ℤ} {e : Entry} {before after : List ℕ} {at end : ℕ}
-    → number ≡ segmentNumber (e .segment)
+    → number ≡ placeNumber (e .segment)
     → day ≡ cellAt cells k
     → night ≡ cellAt cells (count + k)
     → e ≡ entryAt plan k

@@ -11,7 +11,7 @@ use Rattle.request.specs.Request.{levelsCheck, cellsBy}
 use Rattle.writing.specs.Pages.{PutEach}
 use Rattle.text.specs.Answer.{planIn}
 use Rattle.report.specs.Report.{cellsLent, reportOf}
-use Rattle.breakdown.specs.Lines.{segmentParts, segmentNumber, entryParts}
+use Rattle.breakdown.specs.Lines.{segmentParts, placeNumber, entryParts}
 
 -- the parts of what stands at the first n places, one place after another
 unfoldable pub eachBelow : ℕ → (ℕ → List (List ℕ)) → List (List ℕ)
@@ -38,7 +38,7 @@ cellAt cells k = getD cells k (pos 0)
 -- a line for each train entry, with its own cells
 abbrev pub entryLine : Plan → List ℤ → ℕ → List (List ℕ)
 entryLine plan cells k =
-    entryParts (k + 1) (segmentNumber (entryAt plan k .segment)) (entryAt plan k .train) (cellAt cells k) (cellAt cells (length (plan .entries) + k))
+    entryParts (k + 1) (placeNumber (entryAt plan k .segment)) (entryAt plan k .train) (cellAt cells k) (cellAt cells (length (plan .entries) + k))
 
 unfoldable pub entriesParts : Plan → List ℤ → List (List ℕ)
 entriesParts plan cells = eachBelow (length (plan .entries)) (entryLine plan cells)

@@ -17,6 +17,7 @@ use Rattle.emission.specs.declared.TrainBreakdown.{TrainBreakdown}
 use Rattle.emission.specs.Emission.{trainBreakdownOf}
 use Rattle.writing.specs.Bytes.{ascii, digitsOf, figureOf}
 use Rattle.report.specs.Bytes.{level}
+use Rattle.study.specs.Add.{ours}
 
 -- ---- a part after its name, which has the spaces around it
 
@@ -81,8 +82,8 @@ levelParts day night =
     levelPart (ascii " level by day ") (cellLevel day) ++ (levelPart (ascii " level by night ") (cellLevel night) ++ (ascii "\n" ∷ []))
 
 -- the number of the segment at a place; places count from 0, and a study has 24
-unfoldable pub segmentNumber : ℕ → ℕ
-segmentNumber k = cond (ltb k 24) (k + 1) 24
+unfoldable pub placeNumber : ℕ → ℕ
+placeNumber k = cond (ltb k (ours .segments)) (k + 1) (ours .segments)
 
 -- the line of an entry, by its number in the study and its segment's
 unfoldable pub entryParts : ℕ → ℕ → Train → ℤ → ℤ → List (List ℕ)

@@ -7,13 +7,14 @@ ghost use Rattle.writing.specs.Pages.{Put, PutEach};
 ghost use Rattle.request.specs.Levels.{MarksAllowed, ownMarks};
 ghost use Rattle.text.specs.Answer.{planIn};
 ghost use Rattle.report.specs.Report.{reportOf};
-ghost use Rattle.breakdown.specs.Lines.{figurePart, levelPart, cellLevel, pathPart, closePart, stepParts, readingParts, reflectionParts, numberPart, segmentParts, trainParts, levelParts, segmentNumber, entryParts};
+ghost use Rattle.breakdown.specs.Lines.{figurePart, levelPart, cellLevel, pathPart, closePart, stepParts, readingParts, reflectionParts, numberPart, segmentParts, trainParts, levelParts, placeNumber, entryParts};
 ghost use Rattle.breakdown.specs.Breakdown.{segmentsParts, entriesParts, studyParts, BrokenDown};
 use decibel::Level;
 use emission::TrainBreakdown;
 use figures::Segment;
 use figures::Train;
 use propagation::SegmentBreakdown;
+use request::MOST_CELLS;
 use study::MOST_SEGMENTS;
 use study::Study;
 
@@ -188,7 +189,7 @@ fn put_segments(study: Study, out: &mut [u8], start: usize) -> usize
 
 // The number of the segment at a place; places count from 0, and there are no more than a study holds.
 fn number_of(k: usize) -> usize
-    ensures { λ r. ⌜ r ≡ segmentNumber k ⌝ }
+    ensures { λ r. ⌜ r ≡ placeNumber k ⌝ }
 {
     if k < MOST_SEGMENTS {
         return k + 1;
@@ -218,9 +219,10 @@ fn put_entries(study: Study, cells: &[i32], out: &mut [u8], start: usize) -> usi
 
 // Puts a line for each segment and a line for each train entry of the study.
 pub fn put_study(study: Study, out: &mut [u8], at: usize) -> usize
-    ensures { λ r. ⌜ PutEach (now (out .entry)) at (studyParts (planOf study)) (now (out .exit)) r ⌝ }
+    ensures put { λ r. ⌜ PutEach (now (out .entry)) at (studyParts (planOf study)) (now (out .exit)) r ⌝ }
+    ensures allowed { λ _. ⌜ MarksAllowed (planOf study) (ownMarks (planOf study)) ⌝ }
 {
-    let mut cells = [0i32; 192];
+    let mut cells = [0i32; MOST_CELLS];
     let _ = request::levels(study, &mut cells);
     let next = put_segments(study, out, at);
     put_entries(study, &cells, out, next)

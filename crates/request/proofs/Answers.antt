@@ -24,6 +24,7 @@ use Rattle.figures.proofs.Numbers.{unless-number}
 use Rattle.propagation.specs.Propagation.{propagationOf}
 use Rattle.study.specs.declared.Study.{Study}
 use Rattle.study.specs.Plan.{Plan, planOf, segmentAt}
+use Rattle.study.specs.Add.{ours}
 use Rattle.request.specs.declared.PeriodResult.{PeriodResult}
 use Rattle.request.specs.declared.Answer.{Answer}
 use Rattle.request.specs.Levels.{levelsOf, levelAt, ownMarks, MarksAllowed}
@@ -67,8 +68,8 @@ plan-number plan n d e = answer-number (levelsCheck plan n) d e refl ∙ request
 
 -- ---- levels as computed
 
-pub mark-allowed : (cells : List ℤ) → TotalMark (heard (take 96 cells)) (totalMark (heard (take 96 cells)))
-mark-allowed cells = total-allowed (heard (take 96 cells)) (omega (arith, heard-few (take 96 cells), length-take 96 cells)) (heard-kept (take 96 cells))
+pub mark-allowed : (cells : List ℤ) → TotalMark (heard (take (ours .entries) cells)) (totalMark (heard (take (ours .entries) cells)))
+mark-allowed cells = total-allowed (heard (take (ours .entries) cells)) (omega (arith, heard-few (take (ours .entries) cells), length-take (ours .entries) cells)) (heard-kept (take (ours .entries) cells))
 
 module _ (day night : List ℤ) (places : List ℕ) (close : List Bool) (before : List ℤ) where
   -- a refusal leaves the cells
@@ -110,8 +111,8 @@ pub record Computed (plan : Plan) (ds ns : List ℤ) (ps : List ℕ) (cs : List 
 
 -- as many segments and entries as a study may hold
 pub record Few (plan : Plan) : Type 0 where
-  pub segments : length (plan .segments) ≤ 24
-  pub entries : length (plan .entries) ≤ 96
+  pub segments : length (plan .segments) ≤ ours .segments
+  pub entries : length (plan .entries) ≤ ours .entries
 
 module _ {plan : Plan} (few : Few plan) {day night : List ℤ} {places : List ℕ} {close : List Bool} (c : Computed plan day night places close) {before after : List ℤ} {r : Answer} (q : AnsweredFrom day night places close before after r) where
   same-check : checkFrom day night (length before) ≡ levelsCheck plan (length before)

@@ -13,6 +13,7 @@ use Rattle.figures.specs.declared.Segment.{Segment}
 use Rattle.figures.specs.declared.Period.{Period}
 use Rattle.propagation.specs.Propagation.{propagationOf}
 use Rattle.study.specs.Plan.{Plan, segmentAt, noSegment}
+use Rattle.study.specs.Add.{ours}
 use Rattle.request.specs.Levels.{Marks, markAt, ownMarks, heardAt, closeFrom, closeSegments}
 use Rattle.request.specs.Request.{countTo}
 use Rattle.request.proofs.Found.{own-mark, none-adds}
@@ -75,19 +76,19 @@ unfolding ownMarks
 own-marks plan k = own-mark plan k
 
 -- the close count by what was found of the segments, and which are heard
-pub close-found : (p : Period) (plan : Plan) (close : List Bool) (heard : ℕ → Bool) → length (plan .segments) ≤ 24 → ((k : ℕ) → getD close k false ≡ propagationOf (segmentAt plan k) .close)
+pub close-found : (p : Period) (plan : Plan) (close : List Bool) (heard : ℕ → Bool) → length (plan .segments) ≤ ours .segments → ((k : ℕ) → getD close k false ≡ propagationOf (segmentAt plan k) .close)
     → ((k : ℕ) → heard k ≡ heardAt p k (plan .entries))
-    → countTo (λ k. getD close k false && heard k) 24 ≡ closeSegments p plan (ownMarks plan)
+    → countTo (λ k. getD close k false && heard k) (ours .segments) ≡ closeSegments p plan (ownMarks plan)
 close-found p plan close heard few all sounds =
-    count-same (λ k. getD close k false && heard k) (counts p plan (ownMarks plan)) 24 same
+    count-same (λ k. getD close k false && heard k) (counts p plan (ownMarks plan)) (ours .segments) same
     ∙ ap (countTo (counts p plan (ownMarks plan))) split
-    ∙ count-past (counts p plan (ownMarks plan)) (length (plan .segments)) (24 - length (plan .segments)) past
+    ∙ count-past (counts p plan (ownMarks plan)) (length (plan .segments)) (ours .segments - length (plan .segments)) past
     ∙ sym (close-is p plan (ownMarks plan))
   where
-    split : 24 ≡ length (plan .segments) + (24 - length (plan .segments))
+    split : ours .segments ≡ length (plan .segments) + (ours .segments - length (plan .segments))
     split = omega arith
 
-    same : (k : ℕ) → k < 24 → (getD close k false && heard k) ≡ counts p plan (ownMarks plan) k
+    same : (k : ℕ) → k < ours .segments → (getD close k false && heard k) ≡ counts p plan (ownMarks plan) k
     same k h = rw (sounds k, own-marks plan k, all k)
 
     past : (k : ℕ) → length (plan .segments) ≤ k → counts p plan (ownMarks plan) k ≡ false

@@ -61,7 +61,7 @@ runs-sharp = in-band sharpest (λ limit mark b h fs rs es. accurate-sharp limit 
 
 -- Our own limits, so that no premise on sizes is left.
 pub ours-fit : LimitsFit ours
-ours-fit = record { segments = le-refl 24; entries = le-refl 96 }
+ours-fit = record { segments = le-refl (ours .segments); entries = le-refl (ours .entries) }
 
 pub demand-3 : Demand3
 demand-3 = runs-accurate ours ours-fit

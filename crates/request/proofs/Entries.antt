@@ -24,7 +24,7 @@ use Rattle.request.specs.Entry.{entryFence}
 use Rattle.request.proofs.EntryLevels.{near-entry, level-figure, level-silent, entry-loud}
 use Rattle.study.specs.declared.Entry.{Entry}
 use Rattle.study.specs.Plan.{Plan, segmentAt}
-use Rattle.study.specs.Add.{Limits}
+use Rattle.study.specs.Add.{ours, Limits}
 use Rattle.study.proofs.Plans as Plans
 use Rattle.request.specs.Levels.{Marks, markAt, totalMarkIn, levelAt, levelsOf, figures, limitOf, metBy, resultFrom, resultBy}
 use Rattle.study.proofs.Plans.{Each, EntryHeld, PlanHeld, segment-kept}
@@ -82,12 +82,12 @@ some-limit Night = lit≤ tt
 -- the total of up to 96 levels near their fences keeps to a band
 abbrev pub TotalsKeep : Band → Type 0
 TotalsKeep band =
-    (limit : ℕ) (mark : Bool) (b : ℤ) → 1 ≤ limit → (fs rs : List ℤ) → Entries fs rs → 0 < length fs → length fs ≤ 96 → BareLevel (added fs) b →
+    (limit : ℕ) (mark : Bool) (b : ℤ) → 1 ≤ limit → (fs rs : List ℤ) → Entries fs rs → 0 < length fs → length fs ≤ ours .entries → BareLevel (added fs) b →
     AccurateTotal (band .above) (band .below) (band .always) (band .never) limit b (byMark mark (bareAt (energies rs)))
 
 -- A period's result by any marks is accurate to the plan's bare level, in every band that totals keep to.
 module _ (band : Band) (kept : TotalsKeep band) where
-  pub result-accurate : (p : Period) {l : Limits} (plan : Plan) (m : Marks) → PlanHeld l plan → length (plan .entries) ≤ 96 → hasTrains p (plan .entries) ≡ true → AccurateToBare band p plan (resultBy p plan m)
+  pub result-accurate : (p : Period) {l : Limits} (plan : Plan) (m : Marks) → PlanHeld l plan → length (plan .entries) ≤ ours .entries → hasTrains p (plan .entries) ≡ true → AccurateToBare band p plan (resultBy p plan m)
   unfolding Bare resultBy resultFrom levelsOf metBy
   result-accurate p plan m held few trains =
       let es = entries-near p plan m held (held .entries) in

@@ -23,6 +23,7 @@ use Rattle.propagation.specs.Ground.{groundMark}
 use Rattle.propagation.specs.Propagation.{segmentPartsBy, noSegmentParts, segmentBreakdownBy, segmentBreakdownOf, addedUp, propagationOf}
 use Rattle.propagation.proofs.SegmentSum.{short-fits, propagation-small}
 use Rattle.study.specs.Plan.{Plan, segmentAt, noSegment}
+use Rattle.study.specs.Add.{ours}
 use Rattle.request.specs.Levels.{markAt, groundMarks}
 use Rattle.request.specs.Private.{Propagated}
 
@@ -55,7 +56,7 @@ tenths-back s {p} e = toZ-ofZ (short-fits (p .tenths) (rw e (propagation-small s
 
 -- one array of something that a plan's segments have, d where there is no segment
 pub record FilledTo {A : Type 0} (d : A) (of : ℕ → A) (k : ℕ) (xs : List A) : Type 0 where
-  pub size : length xs ≡ 24
+  pub size : length xs ≡ ours .segments
   pub done : (j : ℕ) → j < k → getD xs j d ≡ of j
   pub rest : (j : ℕ) → k ≤ j → getD xs j d ≡ d
 
@@ -64,10 +65,10 @@ repeated zero i a = refl
 repeated (suc n) zero a = refl
 repeated (suc n) (suc i) a = repeated n i a
 
-pub filled-none : {A : Type 0} (d : A) (of : ℕ → A) {xs : List A} → xs ≡ replicate 24 d → FilledTo d of 0 xs
-filled-none d of e = rw e (record { size = refl; done = λ j h. absurd (not-suc-le-zero h); rest = λ j h. repeated 24 j d })
+pub filled-none : {A : Type 0} (d : A) (of : ℕ → A) {xs : List A} → xs ≡ replicate (ours .segments) d → FilledTo d of 0 xs
+filled-none d of e = rw e (record { size = refl; done = λ j h. absurd (not-suc-le-zero h); rest = λ j h. repeated (ours .segments) j d })
 
-pub filled-more : {A : Type 0} (d : A) (of : ℕ → A) (k : ℕ) {xs : List A} {v : A} → k < 24 → FilledTo d of k xs → v ≡ of k → FilledTo d of (k + 1) (set xs k v)
+pub filled-more : {A : Type 0} (d : A) (of : ℕ → A) (k : ℕ) {xs : List A} {v : A} → k < ours .segments → FilledTo d of k xs → v ≡ of k → FilledTo d of (k + 1) (set xs k v)
 filled-more d of k {xs} {v} h old e =
     record {
       size = length-set xs k v ∙ old .size;

@@ -13,6 +13,7 @@ use lib.IntN.{ℤ, pos, negsuc}
 use lib.Signed.{leZ}
 use lib.ListN.{length, getD, set, take, replicate, length-set, getD-replicate}
 use lib.Seq.{getD-set-same, getD-set-other}
+use Rattle.study.specs.Add.{ours}
 use Rattle.request.specs.Request.{soundsAt}
 use Rattle.request.specs.Private.{markedBy, SegmentsHeard}
 
@@ -45,15 +46,15 @@ marked-at heard j k b h = go (eqb j k) refl
 
 -- the segments heard by the first i entries
 pub record HeardTo (es : List ℕ) (cs : List ℤ) (i : ℕ) (heard : List Bool) : Type 0 where
-  pub size : length heard ≡ 24
-  pub each : (k : ℕ) → k < 24 → getD heard k false ≡ soundsAt k (take i es) (take i cs)
+  pub size : length heard ≡ ours .segments
+  pub each : (k : ℕ) → k < ours .segments → getD heard k false ≡ soundsAt k (take i es) (take i cs)
 
 nothing-heard : (k : ℕ) (es : List ℕ) (cs : List ℤ) → soundsAt k (take 0 es) (take 0 cs) ≡ false
 unfolding soundsAt
 nothing-heard k es cs = refl
 
-pub heard-none : (es : List ℕ) (cs : List ℤ) → HeardTo es cs 0 (replicate 24 false)
-heard-none es cs = record { size = refl; each = λ k h. getD-replicate 24 k false false h ∙ sym (nothing-heard k es cs) }
+pub heard-none : (es : List ℕ) (cs : List ℤ) → HeardTo es cs 0 (replicate (ours .segments) false)
+heard-none es cs = record { size = refl; each = λ k h. getD-replicate (ours .segments) k false false h ∙ sym (nothing-heard k es cs) }
 
 pub heard-more : (es : List ℕ) (cs : List ℤ) (i : ℕ) (heard : List Bool) (e : ℕ) (b : Bool) → i < length es → i < length cs → HeardTo es cs i heard
     → getD es i 0 ≡ e → leZ (negsuc 1999) (getD cs i (pos 0)) ≡ b → HeardTo es cs (i + 1) (markedBy heard e b)

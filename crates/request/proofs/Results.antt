@@ -17,6 +17,7 @@ use Rattle.figures.specs.declared.Period.the-variants.{Day, Night}
 use Rattle.propagation.specs.Ground.{SegmentMark}
 use Rattle.propagation.specs.Propagation.{propagationOf}
 use Rattle.propagation.proofs.SegmentSum.{own-mark-allowed}
+use Rattle.study.specs.Add.{ours}
 use Rattle.request.specs.declared.PeriodResult.{PeriodResult}
 use Rattle.study.specs.Plan.{Plan, segmentAt}
 use Rattle.request.specs.Levels.{levelsOf, levelAt, figures, totalMarkIn, groundMarks, ownMarks, metBy, resultFrom, resultBy, MarksAllowed}
@@ -31,17 +32,17 @@ use Rattle.request.proofs.Counts.{count-same, count-none, own-marks, cl
 -- the close segments, where none is marked and where some are
 pub none-close : {levels : List ℤ} {places : List ℕ} {close : List Bool} → ((k : ℕ) → getD close k false ≡ false) → CloseSegments levels places close 0
 none-close {levels} {places} {close} none =
-    record { is = sym (count-none (λ k. getD close k false && soundsAt k places levels) 24 (λ k. ap (λ (b : Bool). b && soundsAt k places levels) (none k))); most = omega arith }
+    record { is = sym (count-none (λ k. getD close k false && soundsAt k places levels) (ours .segments) (λ k. ap (λ (b : Bool). b && soundsAt k places levels) (none k))); most = omega arith }
 
 pub some-close : {levels : List ℤ} {places : List ℕ} {close segments : List Bool} {count : ℕ} → SegmentsHeard places levels segments → CloseCount close segments count → CloseSegments levels places close count
 some-close {levels} {places} {close} {segments} sounds count =
     record {
-      is = count .is ∙ count-same (λ k. getD close k false && getD segments k false) (λ k. getD close k false && soundsAt k places levels) 24 (λ k h. ap (λ (b : Bool). getD close k false && b) (sounds .each k h));
+      is = count .is ∙ count-same (λ k. getD close k false && getD segments k false) (λ k. getD close k false && soundsAt k places levels) (ours .segments) (λ k h. ap (λ (b : Bool). getD close k false && b) (sounds .each k h));
       most = count .most;
     }
 
 -- as the code works it out
-pub period-from : (p : Period) {levels : List ℤ} {places : List ℕ} {close : List Bool} {t : Total} {count one : ℕ} {met : Bool} → t ≡ totalOf (heard (take 96 levels)) → CloseSegments levels places close count
+pub period-from : (p : Period) {levels : List ℤ} {places : List ℕ} {close : List Bool} {t : Total} {count one : ℕ} {met : Bool} → t ≡ totalOf (heard (take (ours .entries) levels)) → CloseSegments levels places close count
     → one ≡ cond (t .close) 1 0 → met ≡ metBy p (t .level) → _≡_ {A = PeriodResult} (record { level = t .level; close = count + one; met = met }) (periodFrom p levels places close)
 unfolding periodFrom resultFrom
 period-from p total count o m = rw (o, m, total, count .is)
@@ -56,27 +57,27 @@ module _ (p : Period) (plan : Plan) where
       go Night = refl
 
   -- from the levels: their total, the segments heard in them, and the verdict on the total
-  pub period-is : (close : List Bool) → length (plan .segments) ≤ 24 → length (plan .entries) ≤ 96 → ((k : ℕ) → getD close k false ≡ propagationOf (segmentAt plan k) .close)
+  pub period-is : (close : List Bool) → length (plan .segments) ≤ ours .segments → length (plan .entries) ≤ ours .entries → ((k : ℕ) → getD close k false ≡ propagationOf (segmentAt plan k) .close)
       → periodFrom p (cellsOf p plan) (placesOf (plan .entries)) close ≡ resultBy p plan (ownMarks plan)
   unfolding periodFrom resultBy levelsOf levelAt ownMarks totalOf
   period-is close few rows all =
       ap₂ (resultFrom p) (total-is ∙ ap (λ (b : Bool). totalBy b (figures (map (levelAt p plan (groundMarks plan)) (plan .entries)))) (sym own-total))
       (close-found p plan close (λ k. soundsAt k (placesOf (plan .entries)) (cellsOf p plan)) few all (λ k. cells-sound p plan (groundMarks plan) k (plan .entries)))
     where
-      total-is : totalOf (heard (take 96 (cellsOf p plan))) ≡ totalOf (figures (map (levelAt p plan (groundMarks plan)) (plan .entries)))
+      total-is : totalOf (heard (take (ours .entries) (cellsOf p plan))) ≡ totalOf (figures (map (levelAt p plan (groundMarks plan)) (plan .entries)))
       total-is =
-          ap (λ (cs : List ℤ). totalOf (heard cs)) (take-all 96 (cellsOf p plan) (omega (arith, cells-length p plan)))
+          ap (λ (cs : List ℤ). totalOf (heard cs)) (take-all (ours .entries) (cellsOf p plan) (omega (arith, cells-length p plan)))
           ∙ ap totalOf (cells-heard p plan (groundMarks plan) (plan .entries))
 
 -- ---- the marks
 
-own-total-mark : (p : Period) (plan : Plan) → length (plan .entries) ≤ 96 → TotalMark (figures (levelsOf p plan (groundMarks plan))) (totalMark (figures (levelsOf p plan (groundMarks plan))))
+own-total-mark : (p : Period) (plan : Plan) → length (plan .entries) ≤ ours .entries → TotalMark (figures (levelsOf p plan (groundMarks plan))) (totalMark (figures (levelsOf p plan (groundMarks plan))))
 unfolding levelsOf
 own-total-mark p plan few =
     total-allowed (figures (map (levelAt p plan (groundMarks plan)) (plan .entries))) (omega (arith, figures-few p plan (groundMarks plan) (plan .entries))) (figures-kept p plan (groundMarks plan) (plan .entries))
 
 -- 01 allows the program's own marks
-pub own-allowed : (plan : Plan) → length (plan .entries) ≤ 96 → MarksAllowed plan (ownMarks plan)
+pub own-allowed : (plan : Plan) → length (plan .entries) ≤ ours .entries → MarksAllowed plan (ownMarks plan)
 unfolding ownMarks levelsOf levelAt propagationOf
 own-allowed plan few =
     record {

@@ -12,12 +12,13 @@ use Rattle.figures.specs.declared.Period.the-variants.{Day, Night}
 use Rattle.propagation.specs.Propagation.{propagationOf}
 use Rattle.study.specs.declared.Entry.{Entry}
 use Rattle.study.specs.Plan.{noSegment}
+use Rattle.study.specs.Add.{ours}
 use Rattle.request.specs.Request.{cellIn, soundsAt, countTo}
 
 -- places in which nothing stands yet
 pub record Blank (ts : List ℤ) (cs : List Bool) : Type 0 where
-  pub tenths : ts ≡ replicate 24 (pos 0)
-  pub close : cs ≡ replicate 24 false
+  pub tenths : ts ≡ replicate (ours .segments) (pos 0)
+  pub close : cs ≡ replicate (ours .segments) false
 
 -- each segment's tenths and close mark stand at its place, and none past them
 pub record Propagated (segments : List Segment) (ts : List ℤ) (cs : List Bool) : Type 0 where
@@ -43,12 +44,12 @@ markedBy heard k b = set heard k (getD heard k false || b)
 
 -- which of the 24 places are those of segments that are heard
 pub record SegmentsHeard (places : List ℕ) (cells : List ℤ) (heard : List Bool) : Type 0 where
-  pub each : (k : ℕ) → k < 24 → getD heard k false ≡ soundsAt k places cells
+  pub each : (k : ℕ) → k < ours .segments → getD heard k false ≡ soundsAt k places cells
 
 -- how many of the 24 places are close and heard
 pub record CloseCount (close heard : List Bool) (r : ℕ) : Type 0 where
-  pub is : r ≡ countTo (λ k. getD close k false && getD heard k false) 24
-  pub most : r ≤ 24
+  pub is : r ≡ countTo (λ k. getD close k false && getD heard k false) (ours .segments)
+  pub most : r ≤ ours .segments
 
 -- whether a place is close: where none is said to be, none is
 pub record AnyClose (close : List Bool) (r : Bool) : Type 0 where
@@ -56,5 +57,5 @@ pub record AnyClose (close : List Bool) (r : Bool) : Type 0 where
 
 -- how many of the 24 places are close and heard in some levels
 pub record CloseSegments (cells : List ℤ) (places : List ℕ) (close : List Bool) (r : ℕ) : Type 0 where
-  pub is : r ≡ countTo (λ k. getD close k false && soundsAt k places cells) 24
-  pub most : r ≤ 24
+  pub is : r ≡ countTo (λ k. getD close k false && soundsAt k places cells) (ours .segments)
+  pub most : r ≤ ours .segments

@@ -9,6 +9,7 @@ ghost use Rattle.emission.specs.Emission.{raised};
 ghost use Rattle.emission.specs.Results.{SmallLevel};
 ghost use Rattle.figures.specs.Refusal.{numberOf, checkNumber};
 ghost use Rattle.study.specs.Plan.{planOf};
+ghost use Rattle.study.specs.Add.{ours};
 ghost use Rattle.request.specs.Levels.{cellOf, limitOf, metBy};
 ghost use Rattle.request.specs.Request.{Answered, AnsweredFrom, requestNumber, levelsNumber, entryCells, periodFrom, refusedBy};
 ghost use Rattle.request.specs.Private.{Blank, Propagated, Filled, SegmentsHeard, CloseCount, AnyClose, CloseSegments, markedBy};
@@ -23,6 +24,9 @@ use study::MOST_ENTRIES;
 use study::MOST_SEGMENTS;
 use study::Study;
 use study::holdings_of;
+
+// The working cells that the entries of any study need.
+pub const MOST_CELLS: usize = 192;
 
 // What a working cell (01's term) holds of an entry that has no trains in the period.
 const SILENT_CELL: i32 = -9999;
@@ -274,7 +278,7 @@ fn propagate(
     tenths: &mut [i16],
     close: &mut [bool],
 )
-    requires { ⌜ (count ≤ 24) × Blank (now tenths) (now close) ⌝ }
+    requires { ⌜ (count ≤ ours .segments) × Blank (now tenths) (now close) ⌝ }
     ensures { λ _. ⌜ Propagated (take count segments) (now (tenths .exit)) (now (close .exit)) ⌝ }
 {
     let mut k: usize = 0;
@@ -298,8 +302,8 @@ fn fill(
     night: &mut [i32],
     places: &mut [usize],
 )
-    requires { ⌜ total ≤ 96 ⌝ }
-    requires { ⌜ (length (now day) ≡ 96) × ((length (now night) ≡ 96) × (length (now places) ≡ 96)) ⌝ }
+    requires { ⌜ total ≤ ours .entries ⌝ }
+    requires { ⌜ (length (now day) ≡ ours .entries) × ((length (now night) ≡ ours .entries) × (length (now places) ≡ ours .entries)) ⌝ }
     ensures { λ _. ⌜ Filled (now (tenths .entry)) (take total entries) (now (day .exit)) (now (night .exit)) (now (places .exit)) ⌝ }
 {
     let mut at: usize = 0;

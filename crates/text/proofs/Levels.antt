@@ -24,6 +24,7 @@ use Rattle.request.specs.Private.{cellFrom}
 use Rattle.request.proofs.Found.{none-adds}
 use Rattle.request.proofs.Cells.{cellsOf, cells-found}
 use Rattle.request.proofs.Answers.{Computed, Few, computed-answer, computed-marks}
+use Rattle.study.specs.Add.{ours}
 use Rattle.text.specs.Private.{Works, PlanAnswered}
 
 -- the cells of trains at their places, by what the segments add
@@ -81,7 +82,7 @@ module _ {plan : Plan} {tenths : List ℤ} {close : List Bool} {trains : List Tr
       go [] = refl
       go (e ∷ es) = ap (_∷_ (cellFrom p tenths e)) (go es)
 
-  pub worked-answer : length (plan .segments) ≤ 24 → length places ≤ 96 → {before after : List ℤ} {r : Answer}
+  pub worked-answer : length (plan .segments) ≤ ours .segments → length places ≤ ours .entries → {before after : List ℤ} {r : Answer}
       → AnsweredFrom (cellsIn Day tenths trains places) (cellsIn Night tenths trains places) places close before after r → PlanAnswered plan before after r
   worked-answer few rows q =
       let all : Computed plan (cellsIn Day tenths trains places) (cellsIn Night tenths trains places) places close = record { day = cells-are Day; night = cells-are Night; places = w .places; close = close-are } in

@@ -40,21 +40,21 @@ unfolding answer
 answer-check Accepted old new = refl
 answer-check (Refused r) old new = refl
 
-segment-room : (st : Study) (line : Line) → addLine ours segmentKind st line .check ≡ Accepted → st .count < 24
+segment-room : (st : Study) (line : Line) → addLine ours segmentKind st line .check ≡ Accepted → st .count < ours .segments
 unfolding addLine addSegment
 segment-room st unended e = refused-not e
 segment-room st (ended line) e = go (segmentOf line) e
   where
-    go : (r : SegmentLine) → segmentAdds ours st r .check ≡ Accepted → st .count < 24
+    go : (r : SegmentLine) → segmentAdds ours st r .check ≡ Accepted → st .count < ours .segments
     go S.Malformed q = refused-not q
     go (S.Fields s) q = segment-taken ours (st .count) s (sym (answer-check (segmentAnswer ours (st .count) s) st (withSegment st s)) ∙ q) .room
 
-train-room : (st : Study) (line : Line) → addLine ours trainKind st line .check ≡ Accepted → st .total < 96
+train-room : (st : Study) (line : Line) → addLine ours trainKind st line .check ≡ Accepted → st .total < ours .entries
 unfolding addLine addTrain
 train-room st unended e = refused-not e
 train-room st (ended line) e = go (trainOf line) e
   where
-    go : (r : TrainLine) → trainAdds ours st r .check ≡ Accepted → st .total < 96
+    go : (r : TrainLine) → trainAdds ours st r .check ≡ Accepted → st .total < ours .entries
     go T.Malformed q = refused-not q
     go (T.Fields t) q = train-taken ours (st .count) (st .total) t (sym (answer-check (trainAnswer ours (st .count) (st .total) t) st (withTrain st t)) ∙ q) .room
 
@@ -76,7 +76,7 @@ module _ {text : List ℕ} {start : ℕ} {counts : List ℕ} {tenths : List ℤ}
 
   -- a segment's line
   module _ (r : Reached text start counts tenths close ts places n t at k (segmentKind ∷ ps)) where
-    pub segment-place : {step : SegmentStep} {p : Propagation} {next : ℕ} → step ≡ SS.Taken p next → SegmentAt n text at step → n < 24
+    pub segment-place : {step : SegmentStep} {p : Propagation} {next : ℕ} → step ≡ SS.Taken p next → SegmentAt n text at step → n < ours .segments
     segment-place {p = p} {next = next} e w =
         let taken : SegmentAt n text at (SS.Taken p next) = rw e at w in
         let took = taken .2 (r .study) (r .worked .count) in
@@ -99,7 +99,7 @@ module _ {text : List ℕ} {start : ℕ} {counts : List ℕ} {tenths : List ℤ}
 
   -- a train line
   module _ (r : Reached text start counts tenths close ts places n t at k (trainKind ∷ ps)) where
-    pub train-place : {step : TrainStep} {x : Train} {next : ℕ} → step ≡ TS.Taken x next → TrainAt n t text at step → t < 96
+    pub train-place : {step : TrainStep} {x : Train} {next : ℕ} → step ≡ TS.Taken x next → TrainAt n t text at step → t < ours .entries
     train-place {x = x} {next = next} e w =
         let taken : TrainAt n t text at (TS.Taken x next) = rw e at w in
         let took = taken (r .study) (r .worked .count) (r .worked .total) in

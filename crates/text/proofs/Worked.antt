@@ -16,7 +16,7 @@ use Rattle.propagation.specs.Propagation.{propagationOf}
 use Rattle.study.specs.declared.Entry.{Entry}
 use Rattle.study.specs.declared.Study.{Study}
 use Rattle.study.specs.Plan.{planOf, emptyStudy}
-use Rattle.study.specs.Add.{withSegment, withTrain}
+use Rattle.study.specs.Add.{ours, withSegment, withTrain}
 use Rattle.text.specs.Private.{Works}
 
 map-append : {A B : Type 0} (f : A → B) (xs ys : List A) → map f (xs ++ ys) ≡ map f xs ++ map f ys
@@ -35,24 +35,24 @@ mapped-more {A} {B} f ys xs n y {x} h e same =
 pub record WorkedTo (st : Study) (n t : ℕ) (tenths : List ℤ) (close : List Bool) (trains : List Train) (places : List ℕ) : Type 0 where
   pub count : st .count ≡ n
   pub total : st .total ≡ t
-  pub segments : length (st .segments) ≡ 24
-  pub entries : length (st .entries) ≡ 96
-  pub few : n ≤ 24
-  pub held : t ≤ 96
-  pub tens : length tenths ≡ 24
-  pub marks : length close ≡ 24
-  pub rows : length trains ≡ 96
-  pub spots : length places ≡ 96
+  pub segments : length (st .segments) ≡ ours .segments
+  pub entries : length (st .entries) ≡ ours .entries
+  pub few : n ≤ ours .segments
+  pub held : t ≤ ours .entries
+  pub tens : length tenths ≡ ours .segments
+  pub marks : length close ≡ ours .segments
+  pub rows : length trains ≡ ours .entries
+  pub spots : length places ≡ ours .entries
   pub works : Works (planOf st) (take n tenths) (take n close) (take t trains) (take t places)
 
-pub worked-none : (tenths : List ℤ) (close : List Bool) (trains : List Train) (places : List ℕ) → length tenths ≡ 24 → length close ≡ 24 → length trains ≡ 96 → length places ≡ 96 → WorkedTo emptyStudy 0 0 tenths close trains places
+pub worked-none : (tenths : List ℤ) (close : List Bool) (trains : List Train) (places : List ℕ) → length tenths ≡ ours .segments → length close ≡ ours .segments → length trains ≡ ours .entries → length places ≡ ours .entries → WorkedTo emptyStudy 0 0 tenths close trains places
 unfolding emptyStudy planOf
 worked-none tenths close trains places a b c d =
     record { count = refl; total = refl; segments = refl; entries = refl; few = omega arith; held = omega arith; tens = a; marks = b; rows = c; spots = d; works = record { tenths = refl; close = refl; train = refl; places = refl } }
 
 module _ {st : Study} {n t : ℕ} {tenths : List ℤ} {close : List Bool} {trains : List Train} {places : List ℕ} (w : WorkedTo st n t tenths close trains places) where
   -- a segment more
-  pub worked-segment : n < 24 → (s : Segment) {p : Propagation} → p ≡ propagationOf s → {v : ℤ} → v ≡ p .tenths → {b : Bool} → b ≡ p .close
+  pub worked-segment : n < ours .segments → (s : Segment) {p : Propagation} → p ≡ propagationOf s → {v : ℤ} → v ≡ p .tenths → {b : Bool} → b ≡ p .close
       → WorkedTo (withSegment st s) (n + 1) t (set tenths n v) (set close n b) trains places
   unfolding withSegment planOf
   worked-segment h s {p} e {v} f {b} g =
@@ -81,7 +81,7 @@ module _ {st : Study} {n t : ℕ} {tenths : List ℤ} {close : List Bool} {train
       }
 
   -- a train more, at the last segment
-  pub worked-train : t < 96 → (k : ℕ) → n ≡ k + 1 → (r : Train) → WorkedTo (withTrain st r) n (t + 1) tenths close (set trains t r) (set places t k)
+  pub worked-train : t < ours .entries → (k : ℕ) → n ≡ k + 1 → (r : Train) → WorkedTo (withTrain st r) n (t + 1) tenths close (set trains t r) (set places t k)
   unfolding withTrain planOf
   worked-train h k e r =
       let entry : Entry = record { segment = st .count - 1; train = r } in
@@ -111,7 +111,7 @@ module _ {st : Study} {n t : ℕ} {tenths : List ℤ} {close : List Bool} {train
       }
 
   -- as many segments as there may be
-  pub worked-few : length (planOf st .segments) ≤ 24
+  pub worked-few : length (planOf st .segments) ≤ ours .segments
   unfolding planOf
   worked-few = omega (arith, length-take (st .count) (st .segments), w .segments)
 
@@ -119,7 +119,7 @@ module _ {st : Study} {n t : ℕ} {tenths : List ℤ} {close : List Bool} {train
   places-taken : length (take t places) ≡ t
   places-taken = length-take-le t places (omega (arith, w .held, w .spots))
 
-  pub held-places : length (take t places) ≤ 96
+  pub held-places : length (take t places) ≤ ours .entries
   held-places = omega (arith, places-taken, w .held)
 
   pub spread : Works (planOf st) (take n tenths) (take n close) (take (length (take t places)) trains) (take t places)

@@ -12,6 +12,7 @@ use Rattle.study.specs.declared.Study.{Study}
 use Rattle.study.specs.Plan.{planOf, heldBy}
 use Rattle.study.proofs.Sizes.{few-entries, plan-entry, opens, opened-entries}
 use Rattle.writing.specs.Pages.{PutEach}
+use Rattle.study.specs.Add.{ours}
 use Rattle.breakdown.specs.Breakdown.{eachBelow, entryLine, entriesParts}
 use Rattle.breakdown.proofs.Parts.{each-none, each-more, entry-put, entries-same}
 use Rattle.breakdown.proofs.put_entries.Statement.{statement}
@@ -23,7 +24,7 @@ held entries total = heldBy [] 0 entries total
 
 abbrev Inv-loop : tie.InvT-loop
 Inv-loop cells out₀ start count entries at₀ k₀ out at k =
-    (k ≤ count) × (count ≤ 96) × (count ≡ length (planOf (held entries count) .entries)) × (length out ≡ length out₀) × PutEach out₀ start (eachBelow k (entryLine (planOf (held entries count)) cells)) out at
+    (k ≤ count) × (count ≤ ours .entries) × (count ≡ length (planOf (held entries count) .entries)) × (length out ≡ length out₀) × PutEach out₀ start (eachBelow k (entryLine (planOf (held entries count)) cells)) out at
 
 abbrev μ-loop : tie.MeasureT-loop
 μ-loop cells out₀ start count entries at₀ k₀ out at k = count - k

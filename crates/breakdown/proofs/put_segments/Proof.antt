@@ -11,6 +11,7 @@ use Rattle.study.specs.declared.Study.{Study}
 use Rattle.study.specs.Plan.{planOf, heldBy}
 use Rattle.study.proofs.Sizes.{few-segments, plan-segment, opens, opened-segments}
 use Rattle.writing.specs.Pages.{PutEach}
+use Rattle.study.specs.Add.{ours}
 use Rattle.breakdown.specs.Breakdown.{eachBelow, segmentLine, segmentsParts}
 use Rattle.breakdown.proofs.Parts.{each-none, each-more, segments-same}
 use Rattle.breakdown.proofs.put_segments.Statement.{statement}
@@ -22,7 +23,7 @@ held segments count = heldBy segments count [] 0
 
 abbrev Inv-loop : tie.InvT-loop
 Inv-loop out₀ start count segments at₀ k₀ out at k =
-    (k ≤ count) × (count ≤ 24) × (count ≡ length (planOf (held segments count) .segments)) × (length out ≡ length out₀) × PutEach out₀ start (eachBelow k (segmentLine (planOf (held segments count)))) out at
+    (k ≤ count) × (count ≤ ours .segments) × (count ≡ length (planOf (held segments count) .segments)) × (length out ≡ length out₀) × PutEach out₀ start (eachBelow k (segmentLine (planOf (held segments count)))) out at
 
 abbrev μ-loop : tie.MeasureT-loop
 μ-loop out₀ start count segments at₀ k₀ out at k = count - k

@@ -15,7 +15,7 @@ returns c =
     let asked = segments .before .before .before in
     let start = asked .before .before .before in
     let plan = planOf (start .args .study) in
-    study-put plan (cells-are plan refl (asked .levels .ensures .0 .by)) (segments .put-segments .ensures) (entries .put-entries .ensures)
+    (study-put plan (cells-are plan refl (asked .levels .ensures .0 .by)) (segments .put-segments .ensures) (entries .put-entries .ensures), asked .levels .ensures .0 .allowed)
 
 pub put-study-spec : {M : Type 1} → statement M
 put-study-spec =

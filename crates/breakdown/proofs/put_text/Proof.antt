@@ -14,7 +14,7 @@ returns c =
     let read = study .before .before .before in
     let start = read .before .before .before in
     record {
-      put = text-put (start .args .text .now) (ap (λ (r : Reading). r .study) (read .read-text .ensures .0)) (study .put-study .ensures) (report .put-report .ensures .0);
+      put = text-put (start .args .text .now) (ap (λ (r : Reading). r .study) (read .read-text .ensures .0)) (study .put-study .ensures .0) (report .put-report .ensures .0);
       allowed = report .put-report .ensures .1;
     }
 

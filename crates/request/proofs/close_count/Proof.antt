@@ -7,15 +7,16 @@ use native.Mathlib.Numerals.{add-one}
 use mathlib.Core.Bool.{false, _&&_}
 use mathlib.Core.Path.{_≡_, refl}
 use lib.ListN.{getD}
+use Rattle.study.specs.Add.{ours}
 use Rattle.request.specs.Request.{countTo}
 use Rattle.request.proofs.close_count.Statement.{statement}
 use Rattle.request.proofs.close_count.Tie as tie
 
 abbrev Inv-loop : tie.InvT-loop
-Inv-loop close heard count₀ k₀ count k = (k ≤ 24) × (count ≤ k) × (count ≡ countTo (λ j. getD close j false && getD heard j false) k)
+Inv-loop close heard count₀ k₀ count k = (k ≤ ours .segments) × (count ≤ k) × (count ≡ countTo (λ j. getD close j false && getD heard j false) k)
 
 abbrev μ-loop : tie.MeasureT-loop
-μ-loop close heard count₀ k₀ count k = 24 - k
+μ-loop close heard count₀ k₀ count k = ours .segments - k
 
 loop-holds : tie.Need-loop-holds Inv-loop μ-loop
 unfolding countTo
@@ -28,7 +29,7 @@ loop-again c =
     (omega arith, omega arith, rw (add-one, v .inv .2, c .one .ensures .0, c .before .is-close .ensures))
 
 returns : tie.Need-returns Inv-loop μ-loop
-returns c = let v = c .before .loop in let e : v .k ≡ 24 = omega arith in record { is = rw e at (v .inv .2); most = omega arith }
+returns c = let v = c .before .loop in let e : v .k ≡ ours .segments = omega arith in record { is = rw e at (v .inv .2); most = omega arith }
 
 pub close-count-spec : {M : Type 1} → statement M
 close-count-spec =

@@ -11,6 +11,7 @@ use Rattle.decibel.proofs.Words.{back}
 use Rattle.figures.specs.declared.Period.the-variants.{Day, Night}
 use Rattle.study.specs.declared.Entry.{Entry}
 use Rattle.study.specs.Plan.{noEntry}
+use Rattle.study.specs.Add.{ours}
 use Rattle.request.specs.declared.EntryCells.{EntryCells}
 use Rattle.request.specs.Request.{entryCells}
 use Rattle.request.specs.Private.{cellFrom, placesOf}
@@ -21,7 +22,7 @@ use Rattle.request.proofs.fill.Tie as tie
 
 abbrev Inv-loop : tie.InvT-loop
 Inv-loop total tenths day₀ night₀ places₀ entries at₀ day night places at =
-    (at ≤ total) × (total ≡ length (take total entries)) × ((length day ≡ 96) × (length night ≡ 96) × (length places ≡ 96))
+    (at ≤ total) × (total ≡ length (take total entries)) × ((length day ≡ ours .entries) × (length night ≡ ours .entries) × (length places ≡ ours .entries))
     × ((day ≡ paste day₀ 0 (map (cellFrom Day tenths) (take total entries)) at) × (night ≡ paste night₀ 0 (map (cellFrom Night tenths) (take total entries)) at) × (places ≡ paste places₀ 0 (placesOf (take total entries)) at))
 
 abbrev μ-loop : tie.MeasureT-loop

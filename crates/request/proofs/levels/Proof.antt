@@ -4,6 +4,7 @@ use borrow.Author.Needs.{needs}
 use native.Mathlib.Omega.{arith}
 use mathlib.Core.Path.{refl}
 use Prim.Native.Nat.{_≤_}
+use Rattle.study.specs.Add.{ours}
 use Rattle.request.proofs.Studies.{computed, day-length, night-length, place-length, opened-propagated, opened-filled, answered-study}
 use Rattle.study.specs.declared.Study.{Study}
 use Rattle.study.specs.Plan.{planOf}
@@ -43,7 +44,7 @@ abbrev read-at : tie.After-fill → tie.After-holdings-of
 read-at c = read-of (propagated (c .before) .before)
 
 -- as many entries as arrays have room for
-few-rows : (c : tie.After-fill) → read-at c .holdings-of .result .total ≤ 96
+few-rows : (c : tie.After-fill) → read-at c .holdings-of .result .total ≤ ours .entries
 few-rows c = omega (arith, opened (read-at c) .total, few (read-at c) .entries)
 
 slice-aggregate-levels-from : tie.Need-slice-aggregate-levels-from

@@ -12,13 +12,14 @@ use Rattle.propagation.specs.declared.Propagation.{Propagation}
 use Rattle.propagation.specs.Propagation.{propagationOf}
 use Rattle.study.specs.Plan.{noSegment}
 use Rattle.study.proofs.Sizes.{taken-at}
+use Rattle.study.specs.Add.{ours}
 use Rattle.request.proofs.Found.{tenths-back, FilledTo, filled-none, filled-more, tenthsOf, closeOf, found-all}
 use Rattle.request.proofs.propagate.Statement.{statement}
 use Rattle.request.proofs.propagate.Tie as tie
 
 abbrev Inv-loop : tie.InvT-loop
 Inv-loop count tenths₀ close₀ segments k₀ tenths close k =
-    (k ≤ count) × (count ≤ 24) × (count ≡ length (take count segments)) × FilledTo (pos 0) (tenthsOf (take count segments)) k tenths × FilledTo false (closeOf (take count segments)) k close
+    (k ≤ count) × (count ≤ ours .segments) × (count ≡ length (take count segments)) × FilledTo (pos 0) (tenthsOf (take count segments)) k tenths × FilledTo false (closeOf (take count segments)) k close
 
 abbrev μ-loop : tie.MeasureT-loop
 μ-loop count tenths₀ close₀ segments k₀ tenths close k = count - k

@@ -7,6 +7,7 @@ use native.Mathlib.Omega.{arith}
 use lib.ListN.{length, drop, take}
 use lib.Seq.{length-take-le}
 use Rattle.study.specs.Plan.{emptyStudy, planOf}
+use Rattle.study.specs.Add.{ours}
 use Rattle.text.specs.Text.{trains, kindsOf}
 use Rattle.text.proofs.Rest.{rest-segment, rest-none, rest-trains, rest-train, rest-after, rest-over, rest-done}
 use Rattle.text.proofs.Worked.{worked-none, worked-few, held-places, spread}
@@ -57,13 +58,13 @@ reading-holds c =
     (omega arith, refl, record { study = emptyStudy; rest = record { within = c .before .before .before .pre; bound = omega arith; whole = refl }; worked = worked-none _ _ _ _ refl refl refl refl })
 
 -- as many segments and entries as have places
-segment-room : (c : tie.After-struct-told Inv-loop μ-loop Inv-reading μ-reading) → outer (heading c) .reading .s < 24
+segment-room : (c : tie.After-struct-told Inv-loop μ-loop Inv-reading μ-reading) → outer (heading c) .reading .s < ours .segments
 segment-room c =
     let h = heading c in
     let l = outer h in
     segment-place (reached-as (λ st r. rest-segment (l .reading .s) r (omega arith)) (l .reading .inv .2)) (added-of c .added .given .1) (h .segment-at .ensures)
 
-train-room : (c : tie.After-known-told4 Inv-loop μ-loop Inv-reading μ-reading) → inner (calling c) .loop .total < 96
+train-room : (c : tie.After-known-told4 Inv-loop μ-loop Inv-reading μ-reading) → inner (calling c) .loop .total < ours .entries
 train-room c =
     let h = calling c in
     let l = inner h in

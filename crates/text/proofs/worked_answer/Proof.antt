@@ -12,13 +12,14 @@ use Rattle.study.specs.Plan.{noTrain}
 use Rattle.study.proofs.Sizes.{taken-at}
 use Rattle.request.specs.declared.EntryCells.{EntryCells}
 use Rattle.request.specs.Request.{entryCells}
+use Rattle.study.specs.Add.{ours}
 use Rattle.text.proofs.Levels.{cellsIn, cells-more, cells-all, cells-count, worked-answer}
 use Rattle.text.proofs.worked_answer.Statement.{statement}
 use Rattle.text.proofs.worked_answer.Tie as tie
 
 abbrev Inv-loop : tie.InvT-loop
 Inv-loop tenths close places cells trains day₀ night₀ rows i₀ day night i =
-    (i ≤ length places) × ((length places ≤ 96) × (length (take (length places) trains) ≡ length places)) × ((length day ≡ 96) × (length night ≡ 96))
+    (i ≤ length places) × ((length places ≤ ours .entries) × (length (take (length places) trains) ≡ length places)) × ((length day ≡ ours .entries) × (length night ≡ ours .entries))
     × ((take i day ≡ take i (cellsIn Day tenths (take (length places) trains) places)) × (take i night ≡ take i (cellsIn Night tenths (take (length places) trains) places)))
 
 abbrev μ-loop : tie.MeasureT-loop
