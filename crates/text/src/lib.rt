@@ -206,32 +206,32 @@ fn read_lines(text: &[u8], start: usize, counts: &[usize]) -> Reading
     ensures { λ r. ⌜ r ≡ readLines ours emptyStudy 2 (kindsOf (now (counts .entry))) (linesOf (drop start (now (text .entry)))) ⌝ }
 {
     let mut study = empty();
-    let mut at = start;
+    let mut from = start;
     let mut line = SECOND_LINE;
     let mut s = 0;
     'reading: loop {
         if counts.len() <= s {
-            if at < text.len() {
+            if from < text.len() {
                 break 'reading refused(Refusal::Contents, line);
             }
             break 'reading accepted(study);
         }
-        let headed = add_segment_line(text, at, study);
+        let headed = add_segment_line(text, from, study);
         let check = headed.check;
         if let Check::Refused(refusal) = check {
             break 'reading refused(refusal, line);
         }
         study = headed.study;
-        at = headed.next;
+        from = headed.next;
         line += 1;
         for _ in 0..counts[s] {
-            let added = add_train_line(text, at, study);
+            let added = add_train_line(text, from, study);
             let checked = added.check;
             if let Check::Refused(refusal) = checked {
                 break 'reading refused(refusal, line);
             }
             study = added.study;
-            at = added.next;
+            from = added.next;
             line += 1;
         }
         s += 1;

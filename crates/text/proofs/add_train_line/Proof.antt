@@ -1,6 +1,5 @@
 -- `text::add_train_line` meets its contract: what the fields add, or why there are none.
 -- Assumes nothing.
-use borrow.Author.Needs.{needs}
 use mathlib.Core.Path.{sym, subst}
 use Rattle.text.specs.Private.{LineAdds}
 use Rattle.text.proofs.Steps.{train-line, fault-line, train-read, train-unread}
@@ -24,4 +23,4 @@ returns-2 c =
 pub add-train-line-spec : {M : Type 1} → statement M
 add-train-line-spec =
     tie.close
-    (tie.spec (λ c κs. c .before .pre) (λ c. search needs) (λ c κs. search needs) (λ c κs. search needs) (λ c. search needs) (λ c κs. search needs) returns returns-2)
+    (tie.spec (λ c κs. c .before .pre) (λ c. c .match .keys1) (λ c κs. tt) (λ c κs. tt) (λ c. c .match .keys2) (λ c κs. tt) returns returns-2)

@@ -157,12 +157,12 @@ answer-lines-spec =
     tie.close
     (tie.spec
     Inv-loop μ-loop Inv-reading μ-reading
-    (λ c κs. search needs) reading-holds (λ c κs. search needs)
+    (λ c κs. tt) reading-holds (λ c κs. tt)
     prefix-tenths (λ c. sym (length-take-le _ _ (prefix-tenths (c .before)))) prefix-close (λ c. sym (length-take-le _ _ (prefix-close (c .before))))
-    prefix-places (λ c. sym (length-take-le _ _ (prefix-places (c .before)))) worked-answer-requires (λ c κs. search needs)
-    (λ c κs. c .before .reading .inv .2 .rest .within) (λ c. search needs) (λ c κs. search needs) (λ c. search needs)
+    prefix-places (λ c. sym (length-take-le _ _ (prefix-places (c .before)))) worked-answer-requires (λ c κs. tt)
+    (λ c κs. c .before .reading .inv .2 .rest .within) (λ c. c .match .keys1) (λ c κs. tt) (λ c. c .match .keys2)
     (λ c. omega (arith, segment-room c)) segment-room segment-room add-line mul-end (λ c. omega arith) loop-holds
-    (λ c. omega (arith, segment-room (c .before .before .before))) (λ c κs. c .before .loop .inv .1 .rest .within) (λ c. search needs) (λ c κs. search needs) (λ c. search needs)
+    (λ c. omega (arith, segment-room (c .before .before .before))) (λ c κs. c .before .loop .inv .1 .rest .within) (λ c. c .match2 .keys1) (λ c κs. tt) (λ c. c .match2 .keys2)
     (λ c. omega (arith, train-room c)) train-room (λ c. omega (arith, train-room c)) train-room (λ c. omega (arith, train-room c)) add-line-2 add-counter (λ c. omega arith) loop-again
     (λ c. omega arith) (λ c. omega arith) reading-again
     (λ c. ap length (c .before .before .before .reading .inv .1)) returns (λ c. search needs) returns-2

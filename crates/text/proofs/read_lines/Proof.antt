@@ -1,6 +1,5 @@
 -- `text::read_lines` meets its contract. Both loops' invariant: what is left of the text and of the kinds of line to come gives the whole answer.
 -- Assumes nothing.
-use borrow.Author.Needs.{needs}
 use mathlib.Core.Path.{refl, sym, _∙_}
 use Prim.Native.Nat.{_+_, _-_, _≤_}
 use native.Mathlib.Omega.{arith}
@@ -106,11 +105,11 @@ read-lines-spec =
     tie.close
     (tie.spec
     Inv-loop μ-loop Inv-reading μ-reading
-    (λ c κs. search needs) reading-holds
-    (λ c κs. search needs) (λ c κs. search needs)
-    (λ c κs. c .before .reading .inv .1 .within) (λ c. search needs) (λ c κs. search needs) (λ c. search needs)
+    (λ c κs. tt) reading-holds
+    (λ c κs. tt) (λ c κs. tt)
+    (λ c κs. c .before .reading .inv .1 .within) (λ c. c .match .keys1) (λ c κs. tt) (λ c. c .match .keys2)
     add-line mul-end (λ c. omega arith) loop-holds
-    (λ c κs. c .before .loop .inv .1 .within) (λ c. search needs) (λ c κs. search needs) (λ c. search needs)
+    (λ c κs. c .before .loop .inv .1 .within) (λ c. c .match2 .keys1) (λ c κs. tt) (λ c. c .match2 .keys2)
     add-line-2 add-counter (λ c. omega arith) loop-again
     (λ c. omega arith) (λ c. omega arith) reading-again
     returns returns-2 returns-3 returns-4)

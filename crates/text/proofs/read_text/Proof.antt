@@ -43,5 +43,5 @@ pub read-text-spec : {M : Type 1} → statement M
 read-text-spec =
     tie.close
     (tie.spec
-    (λ c. search needs) (λ c κs. refl) (λ c. search needs) (λ c κs. search needs) (λ c. search needs) room (λ c. sym (length-take-le _ _ (room (c .before))))
+    (λ c. search needs) (λ c κs. refl) (λ c. c .match .keys1) (λ c κs. tt) (λ c. c .match .keys2) room (λ c. sym (length-take-le _ _ (room (c .before))))
     read-lines-requires returns returns-2)

@@ -1,6 +1,5 @@
 -- `text::segment_at` meets its contract: the judgement of the fields, or why there are none.
 -- Assumes nothing.
-use borrow.Author.Needs.{needs}
 use Rattle.text.proofs.Steps.{segment-read, segment-unread, judged-segment, judged-fault}
 use Rattle.text.proofs.segment_at.Statement.{statement}
 use Rattle.text.proofs.segment_at.Tie as tie
@@ -36,5 +35,5 @@ pub segment-at-spec : {M : Type 1} → statement M
 segment-at-spec =
     tie.close
     (tie.spec
-    (λ c κs. c .before .pre) (λ c. search needs) (λ c. search needs) (λ c κs. search needs) (λ c. search needs) (λ c. search needs)
+    (λ c κs. c .before .pre) (λ c. c .match .keys1) (λ c. c .match .keys2) (λ c κs. tt) (λ c. c .match2 .keys1) (λ c. c .match2 .keys2)
     returns returns-2 returns-3)

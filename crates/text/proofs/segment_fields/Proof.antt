@@ -34,5 +34,5 @@ pub segment-fields-spec : {M : Type 1} → statement M
 segment-fields-spec =
     tie.close
     (tie.spec
-    (λ c κs. search needs) (λ c. search needs) (λ c κs. search needs) returns (λ c κs. search needs) (λ c. search needs) (λ c. search needs)
+    (λ c κs. tt) (λ c. search needs) (λ c κs. tt) returns (λ c κs. tt) (λ c. c .match .keys1) (λ c. c .match .keys2)
     returns-2 (λ c. search needs) returns-3)

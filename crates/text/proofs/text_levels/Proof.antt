@@ -40,5 +40,5 @@ pub text-levels-spec : {M : Type 1} → statement M
 text-levels-spec =
     tie.close
     (tie.spec
-    (λ c. search needs) (λ c κs. refl) (λ c. search needs) (λ c κs. search needs) (λ c. search needs) room (λ c. sym (length-take-le _ _ (room (c .before))))
+    (λ c. search needs) (λ c κs. refl) (λ c. c .match .keys1) (λ c κs. tt) (λ c. c .match .keys2) room (λ c. sym (length-take-le _ _ (room (c .before))))
     answer-lines-requires returns (λ c. search needs) returns-2)

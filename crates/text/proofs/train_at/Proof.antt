@@ -1,6 +1,5 @@
 -- `text::train_at` meets its contract: what the fields answer, or why there are none.
 -- Assumes nothing.
-use borrow.Author.Needs.{needs}
 use mathlib.Core.Path.{sym, _∙_}
 use Rattle.text.proofs.Steps.{train-read, train-unread, answered-train, answered-fault}
 use Rattle.text.proofs.train_at.Statement.{statement}
@@ -37,5 +36,5 @@ pub train-at-spec : {M : Type 1} → statement M
 train-at-spec =
     tie.close
     (tie.spec
-    (λ c κs. c .before .pre) (λ c. search needs) (λ c. search needs) (λ c κs. search needs) (λ c. search needs) (λ c. search needs)
+    (λ c κs. c .before .pre) (λ c. c .match .keys1) (λ c. c .match .keys2) (λ c κs. tt) (λ c. c .match2 .keys1) (λ c. c .match2 .keys2)
     returns returns-2 returns-3)
