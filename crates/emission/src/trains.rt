@@ -35,7 +35,7 @@ fn trains_step(train: Train, period: Period) -> i32
     requires { ⌜ TrainRanged train × (0 < trainsIn period train) ⌝ }
     ensures { λ r. ⌜ Exactly (nearest (trainsFence period train)) r ⌝ }
 {
-    decibel::ten_log(trains_in(train, period)) - hours(period)
+    decibel::count_log(trains_in(train, period)) - hours(period)
 }
 
 // The step, silent where no train runs.

@@ -9,5 +9,5 @@ pub(crate) fn vehicles_step(train: Train) -> i32
     requires { ⌜ TrainRanged train ⌝ }
     ensures { λ r. ⌜ Exactly (nearest (vehiclesFence train)) r ⌝ }
 {
-    decibel::ten_log(natural(train.vehicles))
+    decibel::count_log(natural(train.vehicles))
 }

@@ -12,7 +12,7 @@ returns : tie.Need-returns
 returns c =
     let n = c .before in
     let start = n .before .before in
-    vehicles-is (start .args .train) (start .pre) (n .natural .ensures ∙ ap up (train-read (start .args .train) (n .before .struct-told .given) .vehicles)) (c .ten-log .ensures)
+    vehicles-is (start .args .train) (start .pre) (n .natural .ensures ∙ ap up (train-read (start .args .train) (n .before .struct-told .given) .vehicles)) (c .count-log .ensures)
 
 pub vehicles-step-spec : {M : Type 1} → statement M
 vehicles-step-spec = tie.close (tie.spec (λ c κs. search needs) (λ c κs. search needs) returns)
