@@ -2,10 +2,11 @@
 -- Assumes nothing.
 use mathlib.Core.Path.{_≡_, refl, sym, ap, ap₂, _∙_, subst}
 use mathlib.Core.Bool.{Bool, false, cond, _&&_}
-use Prim.Native.Nat.{ℕ, _+_, _≤_}
+use Prim.Native.Nat.{ℕ, _+_, _≤_, min}
+use native.Mathlib.Nat.{min-comm}
 use native.Mathlib.Omega.{arith}
 use lib.IntN.{ℤ}
-use lib.ListN.{length, getD, take}
+use lib.ListN.{length, getD, take, length-take}
 use lib.Seq.{take-all}
 use mathlib.Core.List.{List, map}
 use Rattle.energy.specs.declared.Total.{Total}
@@ -20,8 +21,9 @@ use Rattle.propagation.proofs.SegmentSum.{own-mark-allowed}
 use Rattle.study.specs.Add.{ours}
 use Rattle.request.specs.declared.PeriodResult.{PeriodResult}
 use Rattle.study.specs.Plan.{Plan, segmentAt}
+use Rattle.study.proofs.Sizes.{take-min}
 use Rattle.request.specs.Levels.{levelsOf, levelAt, figures, totalMarkIn, groundMarks, ownMarks, metBy, resultFrom, resultBy, MarksAllowed}
-use Rattle.request.specs.Request.{soundsAt, periodFrom}
+use Rattle.request.specs.Request.{soundsAt, countTo, periodFrom}
 use Rattle.request.specs.Private.{placesOf, SegmentsHeard, CloseCount, CloseSegments}
 use Rattle.request.proofs.Totals.{figures-kept, figures-few, cells-heard, cells-sound}
 use Rattle.request.proofs.Cells.{cellsOf, cells-length}
@@ -42,10 +44,13 @@ some-close {levels} {places} {close} {segments} sounds count =
     }
 
 -- as the code works it out
-pub period-from : (p : Period) {levels : List ℤ} {places : List ℕ} {close : List Bool} {t : Total} {count one : ℕ} {met : Bool} → t ≡ totalOf (heard (take (ours .entries) levels)) → CloseSegments levels places close count
-    → one ≡ cond (t .close) 1 0 → met ≡ metBy p (t .level) → _≡_ {A = PeriodResult} (record { level = t .level; close = count + one; met = met }) (periodFrom p levels places close)
+pub period-from : (p : Period) (levels : List ℤ) {rows : ℕ} {places : List ℕ} {close : List Bool} {t : Total} {count one : ℕ} {met : Bool} → rows ≡ min (length levels) (ours .entries) → t ≡ totalOf (heard (take (ours .entries) (take rows levels)))
+    → CloseSegments (take rows levels) places close count → one ≡ cond (t .close) 1 0 → met ≡ metBy p (t .level) → _≡_ {A = PeriodResult} (record { level = t .level; close = count + one; met = met }) (periodFrom p levels places close)
 unfolding periodFrom resultFrom
-period-from p total count o m = rw (o, m, total, count .is)
+period-from p levels {rows} e total count o m =
+    let first : take rows levels ≡ take (ours .entries) levels = ap (λ (k : ℕ). take k levels) (e ∙ min-comm (length levels) (ours .entries)) ∙ take-min (ours .entries) levels in
+    let again : take (ours .entries) (take (ours .entries) levels) ≡ take (ours .entries) levels = take-all (ours .entries) (take (ours .entries) levels) (omega (arith, length-take (ours .entries) levels)) in
+    rw (o, m, total, count .is, first, again)
 
 module _ (p : Period) (plan : Plan) where
   own-total : totalMarkIn p (ownMarks plan) ≡ totalMark (figures (levelsOf p plan (groundMarks plan)))
@@ -62,11 +67,15 @@ module _ (p : Period) (plan : Plan) where
   unfolding periodFrom resultBy levelsOf levelAt ownMarks totalOf
   period-is close few rows all =
       ap₂ (resultFrom p) (total-is ∙ ap (λ (b : Bool). totalBy b (figures (map (levelAt p plan (groundMarks plan)) (plan .entries)))) (sym own-total))
-      (close-found p plan close (λ k. soundsAt k (placesOf (plan .entries)) (cellsOf p plan)) few all (λ k. cells-sound p plan (groundMarks plan) k (plan .entries)))
+      (ap (λ (cs : List ℤ). countTo (λ k. getD close k false && soundsAt k (placesOf (plan .entries)) cs) (ours .segments)) all-taken
+      ∙ close-found p plan close (λ k. soundsAt k (placesOf (plan .entries)) (cellsOf p plan)) few all (λ k. cells-sound p plan (groundMarks plan) k (plan .entries)))
     where
+      all-taken : take (ours .entries) (cellsOf p plan) ≡ cellsOf p plan
+      all-taken = take-all (ours .entries) (cellsOf p plan) (omega (arith, cells-length p plan))
+
       total-is : totalOf (heard (take (ours .entries) (cellsOf p plan))) ≡ totalOf (figures (map (levelAt p plan (groundMarks plan)) (plan .entries)))
       total-is =
-          ap (λ (cs : List ℤ). totalOf (heard cs)) (take-all (ours .entries) (cellsOf p plan) (omega (arith, cells-length p plan)))
+          ap (λ (cs : List ℤ). totalOf (heard cs)) all-taken
           ∙ ap totalOf (cells-heard p plan (groundMarks plan) (plan .entries))
 
 -- ---- the marks

@@ -64,7 +64,7 @@ unfoldable pub isHeard : Level → Bool
 isHeard Silent = false
 isHeard (Figure r) = true
 
--- an entry of segment k has trains in the period
+-- an entry of segment k has a level in the period: of an accepted train, that it has trains there
 unfoldable pub heardAt : Period → ℕ → List Entry → Bool
 heardAt p k [] = false
 heardAt p k (e ∷ es) = (eqb (e .segment) k && isHeard (emissionOf p (e .train))) || heardAt p k es

@@ -104,10 +104,11 @@ unfoldable pub countTo : (ℕ → Bool) → ℕ → ℕ
 countTo f zero = 0
 countTo f (suc n) = countTo f n + cond (f n) 1 0
 
--- a period's result by the program's own mark of the total; of levels past the 96th, and of places past the 24th, nothing is heard
+-- a period's result by the program's own mark of the total. Levels past the 96th are not heard, and segments past the 24th not counted
 unfoldable pub periodFrom : Period → List ℤ → List ℕ → List Bool → PeriodResult
 periodFrom p cells places close =
-    resultFrom p (totalOf (heard (take (ours .entries) cells))) (countTo (λ k. getD close k false && soundsAt k places cells) (ours .segments))
+    let levels = take (ours .entries) cells in
+    resultFrom p (totalOf (heard levels)) (countTo (λ k. getD close k false && soundsAt k places levels) (ours .segments))
 
 -- the check of so many cells
 abbrev pub checkFrom : List ℤ → List ℤ → ℕ → Check

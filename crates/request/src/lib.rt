@@ -202,8 +202,9 @@ fn is_met(period: Period, level: Level) -> bool
 fn period_of(period: Period, levels: &[i32], places: &[usize], close: &[bool]) -> PeriodResult
     ensures is { λ r. ⌜ r ≡ periodFrom period (now (levels .entry)) (now (places .entry)) (now (close .entry)) ⌝ }
 {
-    let total = energy::total_of(levels);
-    let count = close_segments(levels, places, close) + one(total.close);
+    let first = &levels[..shorter(levels.len(), MOST_ENTRIES)];
+    let total = energy::total_of(first);
+    let count = close_segments(first, places, close) + one(total.close);
     let level = total.level;
     PeriodResult {
         level: level,
