@@ -28,6 +28,7 @@ ROOTS = {
     "Demand3": "a total is accurate to 0.46 dB",
     "Demand3Sharp": "the narrowest band that the proof gives",
     "CallAccurate": "the same of what C is handed",
+    "accepted-text-is-run": "an accepted text's study is the run of its additions, so that demand 3 is said of it and of what is added to it",
     "Readings": "the starred readings",
     "total-rises": "a total never falls where levels rise",
     "cells-rise": "the same over working cells",
