@@ -1,4 +1,4 @@
--- The lines of a breakdown, part by part: a segment's and a train entry's, each part after its name, in tenths of a decibel with one decimal.
+-- The lines of a breakdown, part by part: a segment's and a train entry's, each part after its name, in decibels with one decimal.
 -- Assumes nothing.
 use mathlib.Core.Bool.{Bool, true, false, cond}
 use mathlib.Core.List.{List, [], _∷_, _++_}
@@ -81,7 +81,7 @@ unfoldable pub levelParts : ℤ → ℤ → List (List ℕ)
 levelParts day night =
     levelPart (ascii " level by day ") (cellLevel day) ++ (levelPart (ascii " level by night ") (cellLevel night) ++ (ascii "\n" ∷ []))
 
--- the number of the segment at a place; places count from 0, and a study has 24
+-- the number of the segment at a place; places count from 0. A place past the last, which no study has, is written as the last
 unfoldable pub placeNumber : ℕ → ℕ
 placeNumber k = cond (ltb k (ours .segments)) (k + 1) (ours .segments)
 

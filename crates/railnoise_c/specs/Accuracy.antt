@@ -23,7 +23,7 @@ use Rattle.railnoise_c.specs.declared.RailnoisePeriod.{RailnoisePeriod}
 use Rattle.railnoise_c.specs.declared.RailnoiseAnswer.{RailnoiseAnswer}
 use Rattle.railnoise_c.specs.Exported.{Called}
 
--- the segments and entries of a text, by its lines alone: 01's "list of its segments and entries"
+-- the segments and entries of an accepted text, by its lines alone: 01's "list of its segments and entries"
 unfoldable pub listedIn : List ℕ → Plan
 listedIn text = accepted ours (additionsOf ours text)
 

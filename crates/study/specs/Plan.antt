@@ -31,7 +31,7 @@ noEntry = record { segment = 0; train = noTrain }
 abbrev pub segmentAt : Plan → ℕ → Segment
 segmentAt plan k = getD (plan .segments) k noSegment
 
--- the one account of a study's value, which every promise cites
+-- the one account of what a study holds, which the promises about levels cite
 unfoldable pub planOf : Study → Plan
 planOf st = record { segments = take (st .count) (st .segments); entries = take (st .total) (st .entries) }
 

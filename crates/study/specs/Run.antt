@@ -50,7 +50,7 @@ extendAll l p (a ∷ rest) = extendAll l (extend l p a) rest
 unfoldable pub accepted : Limits → List Addition → Plan
 accepted l additions = extendAll l emptyPlan additions
 
--- ---- a plan as a list of additions: each segment, and after it the trains of its entries, in order
+-- ---- a plan as a list of additions: each segment, and after it the trains of its entries, in order; an entry at no segment is left out
 
 unfoldable pub trainsOf : ℕ → List Entry → List Addition
 trainsOf k [] = []

@@ -189,7 +189,8 @@ fn at_most(n: usize, most: usize) -> usize
     if n < most { n } else { most }
 }
 
-// The study with the additions of these lists after its own: each segment, then the trains of its entries. What is refused adds nothing.
+// The study with the additions of these lists after its own: each segment, then the trains of its entries. What is refused adds nothing,
+// and an entry at no segment of the lists is left out.
 pub fn extended(
     start: Study,
     segments: [Segment; MOST_SEGMENTS],

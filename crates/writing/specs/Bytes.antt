@@ -17,7 +17,7 @@ ascii (c then s) = code c ∷ ascii s
 abbrev pub lastDigit : ℕ → List ℕ → List ℕ
 lastDigit n before = cond (ltb n 10) [] before ++ ((48 + n % 10) ∷ [])
 
--- the last digits of a number, at most so many of them, none of them a leading zero
+-- the last digits of a number, at most so many of them; where it has no more, none of them is a leading zero
 unfoldable pub digitsWithin : ℕ → ℕ → List ℕ
 digitsWithin zero n = []
 digitsWithin (suc most) n = lastDigit n (digitsWithin most (n / 10))
