@@ -1,10 +1,10 @@
 -- Laws of what is put at a place: with room, without, and one part after another.
 -- Assumes nothing.
 use mathlib.Core.Path.{_≡_, refl, sym, ap, _∙_}
-use mathlib.Core.Bool.{Bool, true, false, cond}
 use mathlib.Core.List.{List, [], _∷_, _++_, append-assoc, append-nil, flatten}
-use Prim.Native.Nat.{ℕ, _+_, _-_, _<_, _≤_}
-use native.Mathlib.Nat.{add-assoc, zero-add}
+use Prim.Native.Nat.{ℕ, _+_, _-_, _<_, _≤_, max}
+use native.Mathlib.Nat.{add-assoc, zero-add, max-eq-left, max-eq-right, lt-of-not-le}
+use native.Mathlib.Decide.{decLe}
 use native.Mathlib.Numerals.{add-one}
 use native.Mathlib.Omega.{arith}
 use borrow.Author.Tests.{le-leb, lt-leb}
@@ -17,9 +17,14 @@ put-fits : (before : List ℕ) (at : ℕ) (new : List ℕ) → at + length new �
 unfolding putOn
 put-fits before at new h = rw (le-leb (at + length new) (length before) h)
 
-pub put-short : (before : List ℕ) (at : ℕ) (new : List ℕ) → length before < at + length new → Put before at new before at
+-- past the end, and where a part has no room
+pub put-past : (before : List ℕ) (at : ℕ) (new : List ℕ) → length before < at → Put before at new before at
 unfolding putOn
-put-short before at new h = record { written = rw (lt-leb (at + length new) (length before) h) }
+put-past before at new h = let past : max at (length before) ≡ at = max-eq-left (omega arith) in record { written = rw (lt-leb (at + length new) (length before) (omega arith), past) refl }
+
+pub put-full : (before : List ℕ) (at : ℕ) (new : List ℕ) → at ≤ length before → length before < at + length new → Put before at new before (length before)
+unfolding putOn
+put-full before at new l h = let within : max at (length before) ≡ length before = max-eq-right l in record { written = rw (lt-leb (at + length new) (length before) h, within) refl }
 
 -- ---- a copy, byte by byte
 
@@ -44,13 +49,12 @@ nothing-placed before at =
     let e : at + 0 ≡ at = omega arith in
     rw (append-nil (take at before), e, take-append-drop at before)
 
-same-either-way : (t : Bool) (p q : Page) → q ≡ p → cond t q p ≡ p
-same-either-way true p q e = e
-same-either-way false p q e = refl
-
 nothing : (before : List ℕ) (at : ℕ) → putOn [] (page before at) ≡ page before at
-unfolding putOn
-nothing before at = same-either-way (leb (at + 0) (length before)) (page before at) (placed [] (page before at)) (nothing-placed before at)
+nothing before at = go (decLe at (length before))
+  where
+    go : Dec (at ≤ length before) → putOn [] (page before at) ≡ page before at
+    go (yes h) = put-fits before at [] (omega arith) ∙ nothing-placed before at
+    go (no f) = sym (put-past before at [] (omega (arith, lt-of-not-le f)) .written)
 
 pub put-nothing : (before : List ℕ) (at : ℕ) → Put before at [] before at
 put-nothing before at = record { written = sym (nothing before at) }

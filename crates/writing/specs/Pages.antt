@@ -3,7 +3,7 @@
 use mathlib.Core.Path.{_≡_}
 use mathlib.Core.Bool.{Bool, cond}
 use mathlib.Core.List.{List, [], _∷_, _++_}
-use Prim.Native.Nat.{ℕ, _+_}
+use Prim.Native.Nat.{ℕ, _+_, max}
 use lib.Dec.{leb}
 use lib.ListN.{length, take, drop}
 
@@ -23,9 +23,13 @@ room n p = leb (p .place + n) (length (p .bytes))
 abbrev pub placed : List ℕ → Page → Page
 placed new p = page (take (p .place) (p .bytes) ++ new ++ drop (p .place + length new) (p .bytes)) (p .place + length new)
 
--- where there is no room for all of them, nothing changes
+-- no byte more has room: what follows a part that did not fit is left out too, so that a page too short ends early and says nothing else
+abbrev pub full : Page → Page
+full p = page (p .bytes) (max (p .place) (length (p .bytes)))
+
+-- where there is no room for all of them, the bytes stay and the page is full
 unfoldable pub putOn : List ℕ → Page → Page
-putOn new p = cond (room (length new) p) (placed new p) p
+putOn new p = cond (room (length new) p) (placed new p) (full p)
 
 -- one part after another
 unfoldable pub putEach : List (List ℕ) → Page → Page

@@ -1,5 +1,5 @@
 // Words and numbers as bytes. Each writer puts its bytes at a place of `out` and answers the place after them; where there is no room
-// for all of them, `out` stays as it is and the place itself is answered.
+// for all of them, `out` stays as it is and its end is answered, so that nothing shorter follows a part that was left out.
 ghost use mathlib.Core.Path.{_≡_};
 ghost use Prim.Native.Nat.{_<_};
 ghost use lib.IntN.{natAbs};
@@ -14,7 +14,7 @@ pub fn put(out: &mut [u8], at: usize, bytes: &[u8]) -> usize
         return at;
     }
     if out.len() - at < bytes.len() {
-        return at;
+        return out.len();
     }
     let mut i = 0;
     while i < bytes.len() {

@@ -6,7 +6,7 @@ use native.Mathlib.Omega.{arith}
 use borrow.Author.Needs.{needs}
 use lib.ListN.{length, length-set}
 use lib.Seq.{paste, paste-zero}
-use Rattle.writing.proofs.Pages.{put-short, copied-more, put-copied}
+use Rattle.writing.proofs.Pages.{put-past, put-full, copied-more, put-copied}
 use Rattle.writing.proofs.put.Statement.{statement}
 use Rattle.writing.proofs.put.Tie as tie
 
@@ -17,13 +17,13 @@ abbrev μ-loop : tie.MeasureT-loop
 μ-loop out₀ at bytes i₀ out i = length bytes - i
 
 returns : tie.Need-returns Inv-loop μ-loop
-returns c = put-short (c .before .args .out .now) (c .before .args .at) (c .before .args .bytes .now) (omega arith)
+returns c = put-past (c .before .args .out .now) (c .before .args .at) (c .before .args .bytes .now) (omega arith)
 
 sub-if2 : tie.Need-sub-if2 Inv-loop μ-loop
 sub-if2 c = omega arith
 
 returns-2 : tie.Need-returns-2 Inv-loop μ-loop
-returns-2 c = put-short (c .before .before .args .out .now) (c .before .before .args .at) (c .before .before .args .bytes .now) (omega arith)
+returns-2 c = put-full (c .before .before .args .out .now) (c .before .before .args .at) (c .before .before .args .bytes .now) (omega arith) (omega arith)
 
 loop-holds : tie.Need-loop-holds Inv-loop μ-loop
 loop-holds c = (search needs, omega arith, search needs, paste-zero (c .before .before .args .out .now) (c .before .before .args .at) (c .before .before .args .bytes .now))
