@@ -12,6 +12,20 @@ cd "$build"
 "$root/tools/install.sh" first
 mv first prefix
 
+# stated WORDS: the number of kB that README gives after these words
+stated() {
+    tr '\n' ' ' <"$root/README.md" | sed -n "s/.*$1 less than \([0-9]*\) kB.*/\1/p"
+}
+
+# within NAME BYTES KILOBYTES
+within() {
+    if [ "$2" -ge "$(($3 * 1000))" ]; then
+        echo "WRONG: $1: $2 bytes, README has less than $3 kB"
+        exit 1
+    fi
+    echo "right: $1"
+}
+
 # same NAME EXPECTED WRITTEN
 same() {
     if [ "$2" != "$3" ]; then
@@ -21,6 +35,8 @@ same() {
     echo "right: $1"
 }
 
+within 'the size of the program' "$(stat -c %s prefix/libexec/railnoise)" "$(stated 'finished program has')"
+within 'the size of the prefix' "$(find prefix -type f -printf '%s\n' | awk '{ sum += $1 } END { print sum }')" "$(stated 'copy the prefix,')"
 version=$(sed -n 's/^#define RAILNOISE_VERSION "\(.*\)"$/\1/p' "$root/include/railnoise.h")
 same 'the version has its part of CHANGELOG.md' "## $version" "$(grep -Fx "## $version" "$root/CHANGELOG.md")"
 answer='period level close met
