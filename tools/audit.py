@@ -187,6 +187,14 @@ def idle_names():
             yield f"{path}: nothing cites {name}"
 
 
+def conclude(faults, tool, what):
+    """Names the faults and ends with 1 where there are any: tools/believed.py and lines.py end so too."""
+    for fault in faults:
+        print(fault, file=sys.stderr)
+    print(f"{tool}: {len(faults)} {what}")
+    sys.exit(1 if faults else 0)
+
+
 def main():
     faults = [fault for path in sorted(pathlib.Path("crates").glob("*/src/**/*.rt")) for fault in function_faults(path)]
     faults += [*trace_faults(), *edit_faults()]
@@ -197,10 +205,7 @@ def main():
     for places in repeated_runs(files(SOURCES)):
         faults.append(f"six equal lines: {', '.join(places[:4])}{' and more' if len(places) > 4 else ''}")
     faults += [*stray_files(), *stray_proofs(), *idle_names()]
-    for fault in faults:
-        print(fault, file=sys.stderr)
-    print(f"audit: {len(faults)} faults")
-    sys.exit(1 if faults else 0)
+    conclude(faults, "audit", "faults")
 
 
 if __name__ == "__main__":

@@ -246,11 +246,7 @@ def main():
     tree = Tree()
     table(tree)
     if "--check" in sys.argv[1:]:
-        found = [*faults(tree)]
-        for fault in found:
-            print(fault, file=sys.stderr)
-        print(f"believed: {len(found)} definitions out of place")
-        sys.exit(1 if found else 0)
+        audit.conclude([*faults(tree)], "believed", "definitions out of place")
 
 
 if __name__ == "__main__":
