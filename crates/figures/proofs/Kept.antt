@@ -17,7 +17,7 @@ use Rattle.figures.specs.declared.Refusal.the-variants.{Distance, Height
 use Rattle.figures.specs.declared.Check.{Check}
 use Rattle.figures.specs.declared.Check.the-variants.{Accepted, Refused}
 use Rattle.figures.specs.Refusal.{unless, firstRefused}
-use Rattle.figures.specs.Rules.{leastDistance, mostDistance, lowestWindow, highestWindow, highestMean, leastGap, lowestTop, highestTop, mostSoft, leastView, widestAngle, mostChart, mostTrack, lowestBallast, mostRow, leastSpeed, mostSpeed, mostVehicles, mostTrains, within, distanceKept, heightsKept, softKept, anglesKept, unscreened, unscreenedKept, screenedKept, screenKept, rangesThen, rangeCheck, readingsKept, rowKept, speedKept, vehiclesKept, trainsKept, trainCheck}
+use Rattle.figures.specs.Rules.{leastDistance, mostDistance, lowestWindow, highestWindow, highestMean, leastGap, lowestTop, highestTop, highestWall, mostSoft, leastView, widestAngle, mostChart, mostTrack, lowestBallast, mostRow, leastSpeed, mostSpeed, mostVehicles, mostTrains, within, distanceKept, heightsKept, softKept, anglesKept, unscreened, unscreenedKept, screenedKept, screenKept, rangesThen, rangeCheck, readingsKept, rowKept, speedKept, vehiclesKept, trainsKept, trainCheck}
 use Rattle.figures.specs.Private.{From, Signed, Ranged, ReadingsRanged, TrainRanged}
 
 -- ---- tests that hold
@@ -75,6 +75,7 @@ record Screened (s : Segment) : Type 0 where
   setback : (up (s .setback) ≤ up (s .distance)) × (dn (s .setback) ≡ 0)
   top : Signed lowestTop highestTop (s .top)
   chart : From 0 mostChart (s .chart)
+  wall : From 0 highestWall (s .wall)
 
 without-screen : (s : Segment) → unscreenedKept s ≡ true → Screened s
 unfolding unscreenedKept
@@ -82,11 +83,14 @@ without-screen s e =
     let r = from-within 0 0 (s .setback) (and-left (within (pos 0) (pos 0) (s .setback)) _ e) in
     let e₂ = and-right (within (pos 0) (pos 0) (s .setback)) _ e in
     let t = from-within 0 0 (s .top) (and-left (within (pos 0) (pos 0) (s .top)) _ e₂) in
-    let c = from-within 0 0 (s .chart) (and-right (within (pos 0) (pos 0) (s .top)) _ e₂) in
+    let e₃ = and-right (within (pos 0) (pos 0) (s .top)) _ e₂ in
+    let c = from-within 0 0 (s .chart) (and-left (within (pos 0) (pos 0) (s .chart)) _ e₃) in
+    let w = from-within 0 0 (s .wall) (and-right (within (pos 0) (pos 0) (s .chart)) _ e₃) in
     record {
       setback = (omega (arith, r .most), r .sign);
       top = record { most = omega (arith, t .most); least = omega (arith, t .sign) };
       chart = record { least = omega arith; most = omega (arith, c .most); sign = c .sign };
+      wall = record { least = omega arith; most = omega (arith, w .most); sign = w .sign };
     }
 
 setback-fits : (r d : ℤ) → leZ (pos leastGap) r ≡ true → leZ (r +ℤ pos leastGap) d ≡ true → (up r ≤ up d) × (dn r ≡ 0)
@@ -102,11 +106,14 @@ with-screen s m l e =
     let e₂ = and-right stands _ e in
     let topped = within (negℤ (pos lowestTop)) (pos highestTop) (s .top) in
     let e₃ = and-right topped _ e₂ in
-    let c = from-within 0 m (s .chart) (and-left (within (pos 0) (pos m) (s .chart)) _ e₃) in
+    let charted = within (pos 0) (pos m) (s .chart) in
+    let e₄ = and-right charted _ e₃ in
+    let c = from-within 0 m (s .chart) (and-left charted _ e₃) in
     record {
       setback = setback-fits (s .setback) (s .distance) (and-left (leZ (pos leastGap) (s .setback)) _ a) (and-right (leZ (pos leastGap) (s .setback)) _ a);
       top = signed-within 1999 highestTop (s .top) (and-left topped _ e₂);
       chart = record { least = omega arith; most = omega (arith, c .most); sign = c .sign };
+      wall = from-within 0 highestWall (s .wall) (and-left (within (pos 0) (pos highestWall) (s .wall)) _ e₄);
     }
 
 screened : (s : Segment) → screenKept s ≡ true → Screened s
@@ -147,6 +154,7 @@ ranged s later e1 =
         setback = record { least = omega arith; most = p .setback .0; sign = p .setback .1 };
         top = p .top;
         chart = p .chart;
+        wall = p .wall;
       },
       rest-kept (screenKept s) Screen _ e5,
     )

@@ -33,6 +33,7 @@ pub record Read (s : Segment) : Type 0 where
   pub ballast : read (s .ballast) ≡ s .ballast
   pub facade : read (s .facade) ≡ s .facade
   pub opposite : read (s .opposite) ≡ s .opposite
+  pub wall : read (s .wall) ≡ s .wall
 
 pub segment-read : (s : Segment) → Told segment-type segment-laws s → Read s
 segment-read s g =
@@ -51,6 +52,7 @@ segment-read s g =
       ballast = back (s .ballast) (g .1 .1 .1 .1 .1 .1 .1 .1 .1 .1 .1 .0 .1);
       facade = back (s .facade) (g .1 .1 .1 .1 .1 .1 .1 .1 .1 .1 .1 .1 .0 .1);
       opposite = back (s .opposite) (g .1 .1 .1 .1 .1 .1 .1 .1 .1 .1 .1 .1 .1 .0 .1);
+      wall = back (s .wall) (g .1 .1 .1 .1 .1 .1 .1 .1 .1 .1 .1 .1 .1 .1 .0 .1);
     }
 
 pub record TrainRead (t : Train) : Type 0 where

@@ -7,7 +7,7 @@ use Rattle.decibel.specs.Ints.{up, dn}
 use Rattle.figures.specs.declared.Segment.{Segment}
 use Rattle.figures.specs.declared.Train.{Train}
 use Rattle.figures.specs.Geometry.{squared}
-use Rattle.figures.specs.Rules.{leastDistance, mostDistance, lowestWindow, highestWindow, highestMean, lowestTop, highestTop, mostSoft, leastView, widestAngle, mostChart, mostTrack, lowestBallast, mostRow, leastSpeed, mostSpeed, mostVehicles, mostTrains}
+use Rattle.figures.specs.Rules.{leastDistance, mostDistance, lowestWindow, highestWindow, highestMean, lowestTop, highestTop, highestWall, mostSoft, leastView, widestAngle, mostChart, mostTrack, lowestBallast, mostRow, leastSpeed, mostSpeed, mostVehicles, mostTrains}
 use Rattle.figures.specs.Bounds.{Below}
 
 -- from a to b
@@ -41,6 +41,7 @@ pub record Ranged (s : Segment) : Type 0 where
   pub setback : From 0 (up (s .distance)) (s .setback)
   pub top : Signed lowestTop highestTop (s .top)
   pub chart : From 0 mostChart (s .chart)
+  pub wall : From 0 highestWall (s .wall)
 
 -- one that keeps line 7 (`readings-ranged`)
 pub record ReadingsRanged (s : Segment) : Type 0 where

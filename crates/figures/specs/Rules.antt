@@ -1,4 +1,4 @@
--- The lines that a segment and a train entry keep (01, "The study"), each bound by its name, and the first line that is not kept (01, "Turned back
+-- The lines that a segment and a train entry keep (01, "The study"; 02, L1), each bound by its name, and the first line that is not kept (01, "Turned back
 -- for a figure"). Line 6 needs the screen's lengths and stands with the screen (crate propagation).
 -- Assumes nothing.
 use mathlib.Core.Bool.{Bool, cond, _&&_, _||_}
@@ -40,6 +40,10 @@ lowestTop = 2000
 
 abbrev pub highestTop : ℕ
 highestTop = 5000
+
+-- in decimetres (L1)
+abbrev pub highestWall : ℕ
+highestWall = 100
 
 -- tenths of the ground
 abbrev pub mostSoft : ℕ
@@ -104,17 +108,19 @@ anglesKept s = within (pos leastView) (pos widestAngle) (s .view) && within (s .
 unfoldable pub unscreened : Segment → Bool
 unscreened s = within (pos 0) (pos 0) (s .screen)
 
--- without a screen D, b and the Chart 6(c) reading are 0
+-- without a screen D, b, the Chart 6(c) reading and the far wall (L1) are 0
 unfoldable pub unscreenedKept : Segment → Bool
-unscreenedKept s = within (pos 0) (pos 0) (s .setback) && (within (pos 0) (pos 0) (s .top) && within (pos 0) (pos 0) (s .chart))
+unscreenedKept s =
+    within (pos 0) (pos 0) (s .setback)
+    && (within (pos 0) (pos 0) (s .top) && (within (pos 0) (pos 0) (s .chart) && within (pos 0) (pos 0) (s .wall)))
 
--- with one: D off source and window, b, the Chart 6(c) reading up to most, and no ballast
+-- with one: D off source and window, b, the Chart 6(c) reading up to most, the far wall (L1), and no ballast
 unfoldable pub screenedKept : Segment → ℤ → Bool
 screenedKept s most =
     (leZ (pos leastGap) (s .setback) && leZ (s .setback +ℤ pos leastGap) (s .distance))
-    && (within (negℤ (pos lowestTop)) (pos highestTop) (s .top) && (within (pos 0) most (s .chart) && within (pos 0) (pos 0) (s .ballast)))
+    && (within (negℤ (pos lowestTop)) (pos highestTop) (s .top) && (within (pos 0) most (s .chart) && (within (pos 0) (pos highestWall) (s .wall) && within (pos 0) (pos 0) (s .ballast))))
 
--- 5: fields 7 to 10 against their lines, and ballast with a screen. A Chart 6(c) reading needs a reflective screen
+-- 5: fields 7 to 10 and 15 against their lines, and ballast with a screen. A Chart 6(c) reading needs a reflective screen
 unfoldable pub screenKept : Segment → Bool
 screenKept s =
     (unscreened s && unscreenedKept s)

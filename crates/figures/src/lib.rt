@@ -10,7 +10,7 @@ ghost use Rattle.figures.specs.Private.{Square};
 ghost use Rattle.figures.specs.Refusal.{numberOf, checkNumber, unless, firstRefused, isAccepted};
 ghost use Rattle.figures.specs.Rules.{within, unscreened};
 
-// One length of track as document 01 numbers its fields: lengths in centimetres, angles in degrees, readings in tenths.
+// One length of track as document 01 and request L1 number its fields: lengths in centimetres, angles in degrees, readings in tenths.
 pub struct Segment {
     // d, horizontal distance to the source line
     pub distance: i32,
@@ -40,6 +40,8 @@ pub struct Segment {
     pub facade: i32,
     // θ', angle of opposite reflecting facades
     pub opposite: i32,
+    // reflecting wall on the far side of the track, its height in decimetres
+    pub wall: i32,
 }
 
 // A train entry: row of Table A1.1, speed in km/h, vehicles, and trains by day and by night.
@@ -67,7 +69,7 @@ pub enum Refusal {
     Ground,
     // 4: angle of view or the doubled angle
     Angle,
-    // 5: screen, its place, its top, Chart 6(c), or ballast with a screen
+    // 5: screen, its place, its top, Chart 6(c), far wall, or ballast with a screen
     Screen,
     // 6: in shadow, path difference above 2.5 m
     Shadow,

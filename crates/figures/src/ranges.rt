@@ -31,6 +31,9 @@ const LOWEST_TOP: i32 = -2000;
 
 const HIGHEST_TOP: i32 = 5000;
 
+// In decimetres.
+const HIGHEST_WALL: i32 = 100;
+
 // Tenths of the ground.
 const MOST_SOFT: i32 = 10;
 
@@ -87,7 +90,8 @@ fn angles_kept(s: Segment) -> bool
 fn unscreened_kept(s: Segment) -> bool
     ensures { λ r. ⌜ r ≡ unscreenedKept s ⌝ }
 {
-    in_range(0, 0, s.setback) & (in_range(0, 0, s.top) & in_range(0, 0, s.chart))
+    in_range(0, 0, s.setback)
+        & (in_range(0, 0, s.top) & (in_range(0, 0, s.chart) & in_range(0, 0, s.wall)))
 }
 
 // A number and the gap more, in 64 bits.
@@ -116,7 +120,8 @@ fn screened_kept(s: Segment, most: i32) -> bool
 {
     stands_between(s)
         & (in_range(LOWEST_TOP, HIGHEST_TOP, s.top)
-            & (in_range(0, most, s.chart) & in_range(0, 0, s.ballast)))
+            & (in_range(0, most, s.chart)
+                & (in_range(0, HIGHEST_WALL, s.wall) & in_range(0, 0, s.ballast))))
 }
 
 fn screen_kept(s: Segment) -> bool

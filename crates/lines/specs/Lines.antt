@@ -1,4 +1,4 @@
--- The line of a segment, 14 numbers, and of a train entry, 5 numbers (01, "The study"); of any other count or form it is malformed.
+-- The line of a segment, 15 numbers (02, L1), and of a train entry, 5 numbers (01, "The study"); of any other count or form it is malformed.
 -- Assumes nothing.
 use Prim.Native.Nat.{ℕ}
 use mathlib.Core.List.{List}
@@ -15,7 +15,7 @@ use Rattle.lines.specs.declared.fields.TrainLine.the-variants as T
 abbrev pub nth : List ℤ → ℕ → ℤ
 nth vs k = getD vs k (pos 0)
 
--- a segment's fields in 01's order
+-- a segment's fields in 01's order, the far wall last (L1)
 abbrev pub segmentAs : Option (List ℤ) → SegmentLine
 segmentAs none = S.Malformed
 segmentAs (some vs) =
@@ -35,10 +35,11 @@ segmentAs (some vs) =
       ballast = nth vs 11;
       facade = nth vs 12;
       opposite = nth vs 13;
+      wall = nth vs 14;
     })
 
 unfoldable pub segmentOf : List ℕ → SegmentLine
-segmentOf line = segmentAs (exactly 14 (numbersOf line))
+segmentOf line = segmentAs (exactly 15 (numbersOf line))
 
 -- a train entry's fields in 01's order
 abbrev pub trainAs : Option (List ℤ) → TrainLine

@@ -16,7 +16,7 @@ pub enum TrainLine {
     Malformed,
 }
 
-// The 14 numbers of a segment's line.
+// The 15 numbers of a segment's line.
 pub fn segment_of(line: &[u8]) -> SegmentLine
     ensures { λ r. ⌜ r ≡ segmentOf (now (line .entry)) ⌝ }
 {
@@ -62,7 +62,10 @@ pub fn segment_of(line: &[u8]) -> SegmentLine
     let Number::Value(opposite, after_opposite) = number_at(line, after_facade) else {
         return SegmentLine::Malformed;
     };
-    if after_opposite <= line.len() {
+    let Number::Value(wall, after_wall) = number_at(line, after_opposite) else {
+        return SegmentLine::Malformed;
+    };
+    if after_wall <= line.len() {
         return SegmentLine::Malformed;
     }
     SegmentLine::Fields(Segment {
@@ -80,6 +83,7 @@ pub fn segment_of(line: &[u8]) -> SegmentLine
         ballast,
         facade,
         opposite,
+        wall,
     })
 }
 

@@ -4,6 +4,7 @@ pub mod AirStep
 pub mod OppositeStep
 pub mod AngleRange
 pub mod AngleStep
+pub mod WallLoss
 pub mod ScreenStep
 pub mod GroundMark
 pub mod GroundStep

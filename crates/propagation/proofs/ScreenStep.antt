@@ -22,13 +22,14 @@ use Rattle.figures.specs.Geometry.{slant, slantSquare, inShadow}
 use Rattle.figures.specs.Rules.{unscreened, mostDistance}
 use Rattle.figures.specs.Bounds.{Below}
 use Rattle.figures.specs.Private.{From, Signed, Exactly, Ranged}
-use Rattle.figures.proofs.Signs.{read, below-back, from-below, signed-below, natural-below, exactly-read, exactly-by}
+use Rattle.figures.proofs.Signs.{read, below-back, from-below, signed-below, natural-below, exactly-read}
 use Rattle.figures.proofs.Squares.{slant-most}
 use Rattle.figures.proofs.Tenths.{tenths-of}
 use Rattle.figures.proofs.Lies.{lies-within, lies-fence}
-use Rattle.propagation.specs.Screen.{lengthOf, pathDifference, mostShadow, screenFormula, screenFence}
+use Rattle.propagation.specs.Screen.{lengthOf, pathDifference, mostShadow, screenFormula, wallMetres, reduced, screenFence}
 use Rattle.propagation.specs.Private.{Differs, Length}
 use Rattle.propagation.proofs.DistanceStep.{slant-square-most}
+use Rattle.propagation.proofs.WallLoss.{nearest-reduced, lies-reduced}
 
 -- ---- lengths
 
@@ -134,9 +135,12 @@ pub screen-clear : {b : Bool} {m : ℕ} → b ≡ false → 4000000 < m → Exac
 unfolding screenFormula nearest
 screen-clear {m = m} e h = rw (e, lt-leb m 4000000 h) (record { is = refl; small = natural-below (lit< tt) })
 
-pub screen-is : (s : Segment) {b : Bool} {m : ℕ} {r : ℤ} → b ≡ inShadow s → m ≡ pathDifference s → Exactly (nearest (screenFormula b m)) r → Exactly (nearest (screenFence s)) (read r)
+-- the step after the loss of n metres, from r tenths by the formulas
+pub screen-is : (s : Segment) {b : Bool} {m n : ℕ} {r : ℤ} → b ≡ inShadow s → m ≡ pathDifference s → n ≡ wallMetres s → Exactly (nearest (screenFormula b m)) r → reduced 5 n r ≡ nearest (screenFence s)
 unfolding screenFence
-screen-is s e f t = exactly-read (exactly-by (ap₂ (λ (x : Bool) (y : ℕ). nearest (screenFormula x y)) e f) t)
+screen-is s {n = n} e f i t =
+    ap₂ (reduced 5) i (t .is ∙ ap₂ (λ (x : Bool) (y : ℕ). nearest (screenFormula x y)) e f)
+    ∙ sym (nearest-reduced (wallMetres s) (screenFormula (inShadow s) (pathDifference s)))
 
 -- ---- how far they lie from zero
 
@@ -159,6 +163,6 @@ pub screen-lies : (s : Segment) → (inShadow s ≡ true → pathDifference s �
 unfolding screenFence
 screen-lies s f = go (inShadow s) refl
   where
-    go : (b : Bool) → inShadow s ≡ b → Signed 23250000 3020000 (screenFormula b (pathDifference s))
-    go true e = shade-lies (pathDifference s) (f e)
-    go false e = lit-lies (pathDifference s)
+    go : (b : Bool) → inShadow s ≡ b → Signed 23250000 3020000 (reduced 500000 (wallMetres s) (screenFormula b (pathDifference s)))
+    go true e = lies-reduced (wallMetres s) (shade-lies (pathDifference s) (f e))
+    go false e = lies-reduced (wallMetres s) (lit-lies (pathDifference s))

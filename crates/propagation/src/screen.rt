@@ -1,4 +1,4 @@
-// The screen step: the path difference over the screen's top, and its formulas.
+// The screen step: the path difference over the screen's top, its formulas, and the loss by a wall on the far side.
 ghost use mathlib.Core.Path.{_≡_};
 ghost use mathlib.Core.Bool.{true, false};
 ghost use Prim.Native.Nat.{_≤_};
@@ -7,14 +7,18 @@ ghost use Rattle.decibel.specs.Round.{nearest};
 ghost use Rattle.figures.specs.Geometry.{slant, slantSquare};
 ghost use Rattle.figures.specs.Rules.{unscreened};
 ghost use Rattle.figures.specs.Private.{Exactly, Ranged};
-ghost use Rattle.propagation.specs.Screen.{mostShadow, pathDifference, screenFormula, screenFence};
+ghost use Rattle.propagation.specs.Screen.{mostShadow, pathDifference, screenFormula, wallMetres, screenFence};
 ghost use Rattle.propagation.specs.Private.{Ranges, Differs, Length};
 use figures::Segment;
 use figures::in_shadow;
+use figures::natural;
 use figures::slant_of;
 
 // 2.5 m in ten-millionths of a metre, the most in shadow.
 pub(crate) const MOST_SHADOW: u64 = 25000000;
+
+// In decimetres, the least far wall that counts.
+const LEAST_WALL: u64 = 15;
 
 // A length from its square, in hundred-thousandths of a centimetre.
 fn length_of(n: u64) -> u64
@@ -86,10 +90,31 @@ fn screen_by(shaded: bool, m: u64) -> i32
     0
 }
 
-// The screen, in shadow or illuminated.
+// The far wall's height in metres; a lower one than LEAST_WALL does nothing.
+fn wall_metres(s: Segment) -> u64
+    requires { ⌜ Ranged s ⌝ }
+    ensures { λ r. ⌜ r ≡ wallMetres s ⌝ }
+{
+    let height = natural(s.wall);
+    if height < LEAST_WALL {
+        return 0;
+    }
+    (height + 5) / 10
+}
+
+// The screen, in shadow or illuminated, with the far wall's loss of 5 tenths a metre. Only a loss is cut at zero.
 pub(crate) fn screen_step(s: Segment, m: u64) -> i32
     requires { ⌜ Ranges s × (Differs s m × (unscreened s ≡ false)) ⌝ }
     ensures { λ r. ⌜ Exactly (nearest (screenFence s)) r ⌝ }
 {
-    screen_by(in_shadow(s), m)
+    let step = screen_by(in_shadow(s), m);
+    let metres = wall_metres(s);
+    if metres < 1 {
+        return step;
+    }
+    let louder = step + (5 * metres) as i32;
+    if louder < 0 {
+        return louder;
+    }
+    0
 }

@@ -20,7 +20,7 @@ emptyPlan = record { segments = []; entries = [] }
 -- what stands in a place that nothing was added to; no segment's figures are all 0
 abbrev pub noSegment : Segment
 noSegment =
-    record { distance = pos 0; height = pos 0; mean = pos 0; soft = pos 0; view = pos 0; doubled = pos 0; screen = pos 0; setback = pos 0; top = pos 0; chart = pos 0; track = pos 0; ballast = pos 0; facade = pos 0; opposite = pos 0 }
+    record { distance = pos 0; height = pos 0; mean = pos 0; soft = pos 0; view = pos 0; doubled = pos 0; screen = pos 0; setback = pos 0; top = pos 0; chart = pos 0; track = pos 0; ballast = pos 0; facade = pos 0; opposite = pos 0; wall = pos 0 }
 
 abbrev pub noTrain : Train
 noTrain = record { row = pos 0; speed = pos 0; vehicles = pos 0; day = pos 0; night = pos 0 }

@@ -59,6 +59,7 @@ pub fn no_segment() -> Segment
         ballast: 0,
         facade: 0,
         opposite: 0,
+        wall: 0,
     }
 }
 

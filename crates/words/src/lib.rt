@@ -40,7 +40,7 @@ fn put_words(out: &mut [u8], at: usize, refusal: Refusal) -> usize
         Refusal::Screen => writing::put(
             out,
             at,
-            b"screen must be 0, 1 or 2; source to screen 100 cm to 100 cm less than the distance; screen top -2000 to 5000 cm; Chart 6(c) reading 0 to 100 tenths, and 0 unless the screen is reflective (2); all three must be 0 without a screen, and ballast 0 with one",
+            b"screen must be 0, 1 or 2; source to screen 100 cm to 100 cm less than the distance; screen top -2000 to 5000 cm; Chart 6(c) reading 0 to 100 tenths, and 0 unless the screen is reflective (2); far wall 0 to 100 dm; all four must be 0 without a screen, and ballast 0 with one",
         ),
         Refusal::Shadow => writing::put(
             out,
@@ -67,7 +67,7 @@ fn put_words(out: &mut [u8], at: usize, refusal: Refusal) -> usize
         Refusal::Form => writing::put(
             out,
             at,
-            b"out of form: a number has 1 to 5 digits, no decimal point and no spare zero, as 0, 75 or -30; one space between two numbers, no tab, second space or carriage return; a line feed ends every line, the last too; a segment has 14 numbers, a train 5, line 1 one more than segments; at most 16384 bytes",
+            b"out of form: a number has 1 to 5 digits, no decimal point and no spare zero, as 0, 75 or -30; one space between two numbers, no tab, second space or carriage return; a line feed ends every line, the last too; a segment has 15 numbers, a train 5, line 1 one more than segments; at most 16384 bytes",
         ),
         Refusal::Contents => writing::put(
             out,

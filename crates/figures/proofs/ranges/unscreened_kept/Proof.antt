@@ -9,10 +9,11 @@ use Rattle.figures.proofs.ranges.unscreened_kept.Tie as tie
 returns : tie.Need-returns
 unfolding unscreenedKept
 returns c =
-    let second = c .before .before in
+    let third = c .before .before in
+    let second = third .before .before in
     let first = second .before .before in
-    let f = segment-read (first .before .before .args .s) (c .before .struct-told3 .given) in
-    simp (first .in-range .ensures, second .in-range2 .ensures, c .in-range3 .ensures, f .setback, f .top, f .chart)
+    let f = segment-read (first .before .before .args .s) (c .before .struct-told4 .given) in
+    simp (first .in-range .ensures, second .in-range2 .ensures, third .in-range3 .ensures, c .in-range4 .ensures, f .setback, f .top, f .chart, f .wall)
 
 pub unscreened-kept-spec : {M : Type 1} → statement M
-unscreened-kept-spec = tie.close (tie.spec (λ c κs. search needs) (λ c κs. search needs) (λ c κs. search needs) returns)
+unscreened-kept-spec = tie.close (tie.spec (λ c κs. search needs) (λ c κs. search needs) (λ c κs. search needs) (λ c κs. search needs) returns)

@@ -59,18 +59,21 @@ after-facade c = step (after-ballast (c .before .before .before .before)) (c .be
 abbrev after-opposite : tie.After-known-told14 → Progress
 after-opposite c = step (after-facade (c .before .before .before .before)) (c .before .before .before .number-at14 .ensures) (c .before .opposite .given .1) (c .known-told14 .given .0 .1)
 
+abbrev after-wall : tie.After-known-told15 → Progress
+after-wall c = step (after-opposite (c .before .before .before .before)) (c .before .before .before .number-at15 .ensures) (c .before .wall .given .1) (c .known-told15 .given .0 .1)
+
 -- a field that is missing or no number
-missing : (p : Progress) {r : Number} → r ≡ numberAt (p .line) (p .at) → r ≡ N.Malformed → eqb (length (p .vs)) 14 ≡ false → S.Malformed ≡ segmentOf (p .line)
+missing : (p : Progress) {r : Number} → r ≡ numberAt (p .line) (p .at) → r ≡ N.Malformed → eqb (length (p .vs)) 15 ≡ false → S.Malformed ≡ segmentOf (p .line)
 unfolding segmentOf
-missing p e q d = field-missing p e 14 segmentAs q d
+missing p e q d = field-missing p e 15 segmentAs q d
 
-extra : tie.Need-returns-15
+extra : tie.Need-returns-16
 unfolding segmentOf
-extra c = field-extra (after-opposite (c .before)) 14 segmentAs refl (c .if1 .taken)
+extra c = field-extra (after-wall (c .before)) 15 segmentAs refl (c .if1 .taken)
 
-whole : tie.Need-returns-16
+whole : tie.Need-returns-17
 unfolding segmentOf
-whole c = fields-read (after-opposite (c .before)) 14 segmentAs refl (c .if1 .left)
+whole c = fields-read (after-wall (c .before)) 15 segmentAs refl (c .if1 .left)
 
 pub segment-of-spec : {M : Type 1} → statement M
 segment-of-spec =
@@ -104,5 +107,7 @@ segment-of-spec =
     (λ c. missing (after-ballast (c .before .before .before)) (c .before .before .number-at13 .ensures) (c .enum-told13 .given .1) refl)
     (λ c κs. tt) (λ c. c .match14 .keys1) (λ c. c .match14 .keys2)
     (λ c. missing (after-facade (c .before .before .before)) (c .before .before .number-at14 .ensures) (c .enum-told14 .given .1) refl)
+    (λ c κs. tt) (λ c. c .match15 .keys1) (λ c. c .match15 .keys2)
+    (λ c. missing (after-opposite (c .before .before .before)) (c .before .before .number-at15 .ensures) (c .enum-told15 .given .1) refl)
     extra
     whole)
