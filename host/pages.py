@@ -69,7 +69,7 @@ def rows():
     for row, vehicle, figure in listed:
         # 100 km/h are 71.2 dB, a single train by day takes 48.1 off; nothing else counts
         level = (round(float(figure) * 10) + 712 - 481) / 10
-        written = answer(f"1 1\n2500 0 600 0 180 180 0 0 0 0 0 0 0 0\n{row} 100 1 1 0\n")
+        written = answer(f"1 1\n2500 0 600 0 180 180 0 0 0 0 0 0 0 0 0\n{row} 100 1 1 0\n")
         yield f"\nday {level:.1f} 0 no\n" in written, f"row {row}, {vehicle}: not {figure}: {written}"
 
 

@@ -93,7 +93,7 @@
  *   34  Class 91                                        14.8
  *
  * One segment with one train entry, the memorandum's Example 2:
- *     "1 1\n10000 330 235 10 180 180 0 0 0 0 0 0 1 0\n1 150 10 179 13\n"
+ *     "1 1\n10000 330 235 10 180 180 0 0 0 0 0 0 1 0 0\n1 150 10 179 13\n"
  */
 #ifndef RAILNOISE_H
 #define RAILNOISE_H
