@@ -6,7 +6,8 @@
 
 PROGRAM is by default target/bin/railnoise. It is asked what it reports. Beside it stands the farthest report that document 01 allows:
 its marks are free where a value lies more than 0.001 and less than 0.002 dB from a tie. Floating point finds the figures; what is
-printed is worked out from document 01's formulas alone with 60 digits, marks and energies as document 01 has them.
+printed is worked out from document 01's formulas alone with 60 digits, marks and energies as document 01 has them; a far wall as
+document 02 has it (L1).
 """
 import math
 import pathlib
@@ -71,6 +72,11 @@ def screen_value(d, h, screen, top):
     return Decimal("0.88") + Decimal("2.14") * log(delta + Decimal("0.001")) if delta <= Decimal("0.4") else Decimal(0)
 
 
+def reduced(screen, wall):
+    """A screen's value with a far wall of so many decimetres: half a decibel less for each metre, halves up, and then never above zero."""
+    return screen if wall < 15 else min(Decimal(0), screen + Decimal((wall + 5) // 10) / 2)
+
+
 def ground_value(d, mean, soft):
     height = min(max(mean, 100), 600)
     return -Decimal("0.0006") * soft * (600 - height) * log(d, 2500) if d > 2500 else Decimal(0)
@@ -110,12 +116,12 @@ def ground_choices(value):
 
 def segment_choices(segment):
     """The fence of a segment's steps and readings, and the tenths that may be taken, each with the ground's mark."""
-    d, h, mean, soft, view, doubled, screen, screen_at, top, chart, track, ballast, facade, opposite = segment
+    d, h, mean, soft, view, doubled, screen, screen_at, top, chart, track, ballast, facade, opposite, wall = segment
     square = d * d + h * h
     steps = [-5 * log(square, 2500**2), Decimal("0.2") - Decimal("0.00008") * Decimal(square).sqrt(),
              10 * log(y_of(view, doubled), 10**9) - 5, Decimal(15 * opposite) / (10 * view)]
     if screen:
-        steps.append(screen_value(d, h, screen_at, top))
+        steps.append(reduced(screen_value(d, h, screen_at, top), wall))
         ground_fence, grounds = 0, {(0, False)}
     else:
         ground_fence, grounds = ground_choices(ground_value(d, mean, soft))
@@ -251,9 +257,10 @@ def behind_screen(sign):
 
 
 def segments(sign, mark):
+    """Without far walls: one moves a screen step by whole tenths or to zero, and so adds no error."""
     view, doubled, opposite = angles(sign)
     for _, (d, h, mean, soft, screen, screen_at, top) in ranked([*open_ground(sign, mark), *behind_screen(sign)], sign)[:60]:
-        yield [d, h, mean, soft, view, doubled, screen, screen_at, top, 0, 0, 0, 0, opposite]
+        yield [d, h, mean, soft, view, doubled, screen, screen_at, top, 0, 0, 0, 0, opposite, 0]
 
 
 def mixtures(sign, mark):
