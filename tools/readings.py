@@ -75,8 +75,14 @@ def lengths(fields):
     return {"slant": f"{math.hypot(d, h):.1f}", "delta": f"{over:.3f}"}
 
 
+def far_wall(fields):
+    """What the far wall as entered takes off the screen's correction, in tenths."""
+    decimetres = fields[14]
+    return 0 if decimetres < 15 else 5 * ((decimetres + 5) // 10)
+
+
 def segment_parts(line, fields):
-    parts = {"ground": "0.0", "screen": "0.0"} | line.groupdict() | lengths(fields)
+    parts = {"ground": "0.0", "screen": "0.0", "dual": decimal(far_wall(fields))} | line.groupdict() | lengths(fields)
     parts[parts["path"]] = parts["tenths"]
     parts["reduced"] = added(parts, ["tenths", "chart"])
     return parts
