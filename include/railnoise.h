@@ -16,7 +16,7 @@
  * leading zero and no minus zero.
  *
  * The first line is the contents: the number of segments, 1 to 24, then for each segment the number of
- * its train entries, 0 to 96 each and 1 to 96 in all. Each segment's line of 14 numbers follows, and
+ * its train entries, 0 to 96 each and 1 to 96 in all. Each segment's line of 15 numbers follows, and
  * after it the lines of its train entries, 5 numbers each. There is no other line.
  *
  * A segment, in this order:
@@ -36,6 +36,8 @@
  *   12  reading of paragraph 22, ballast             0.1 dB       -30 to 0; 0 with a screen
  *   13  facade correction                                         0 or 1; 1 adds 2.5 dB
  *   14  angle of opposite reflecting facades         degrees      0 to the angle of view
+ *   15  far wall's height above the railhead         decimetres   0 to 100; 0 without a screen, and where it
+ *                                                                 absorbs or leans more than 15 degrees
  *
  * A train entry, in this order:
  *    1  vehicle row of Table A1.1, see below                      1 to 34
@@ -152,8 +154,8 @@ enum {
     RAILNOISE_ANGLE = 4,           /* the angle of view is not 5 to 180 degrees, or a not from it to 180 */
     RAILNOISE_SCREEN = 5,          /* screen not 0, 1 or 2; D not 100 to d - 100 cm; top not -2000 to
                                       5000 cm; Chart 6(c) reading not 0 to 100 tenths, or not 0 unless
-                                      reflective; any of D, top and reading not 0 without a screen;
-                                      ballast not 0 with one */
+                                      reflective; far wall not 0 to 100 dm; any of D, top, reading and
+                                      far wall not 0 without a screen; ballast not 0 with one */
     RAILNOISE_PATH_DIFFERENCE = 6, /* in shadow, the path over the screen is more than 2.5 m longer */
     RAILNOISE_READING = 7,         /* Table 1 reading not 0 to 150 tenths, ballast not -30 to 0 tenths,
                                       facade not 0 or 1, or the opposite angle not 0 to the angle of view */
@@ -203,8 +205,8 @@ static inline const char *railnoise_refusal_words(uint32_t refusal)
     case RAILNOISE_SCREEN:
         return "screen must be 0, 1 or 2; source to screen 100 cm to 100 cm less than the distance; "
                "screen top -2000 to 5000 cm; Chart 6(c) reading 0 to 100 tenths, and 0 unless the "
-               "screen is reflective (2); all three must be 0 without a screen, and ballast 0 with "
-               "one";
+               "screen is reflective (2); far wall 0 to 100 dm; all four must be 0 without a screen, "
+               "and ballast 0 with one";
     case RAILNOISE_PATH_DIFFERENCE:
         return "window is in the screen's shadow and the path over the screen is more than 2.5 m "
                "longer than the straight one, beyond the chart";
@@ -219,7 +221,7 @@ static inline const char *railnoise_refusal_words(uint32_t refusal)
     case RAILNOISE_FORM:
         return "out of form: a number has 1 to 5 digits, no decimal point and no spare zero, as 0, "
                "75 or -30; one space between two numbers, no tab, second space or carriage return; "
-               "a line feed ends every line, the last too; a segment has 14 numbers, a train 5, line "
+               "a line feed ends every line, the last too; a segment has 15 numbers, a train 5, line "
                "1 one more than segments; at most 16384 bytes";
     case RAILNOISE_CONTENTS:
         return "line 1 must give 1 to 24 segments, then each segment's number of train lines, 0 to "
