@@ -3,7 +3,7 @@
 
     host/ranges.py
 
-- BOUNDS are the named bounds of crates/figures/specs/Rules.antt. From them and the lines below them there come the ranges of the 14 and 5
+- BOUNDS are the named bounds of crates/figures/specs/Rules.antt. From them and the lines below them there come the ranges of the 15 and 5
   figures; the screen has values and no range.
 - README.md, docs/PLANNER.md, docs/RULES.md and the header have a table of them each, with units.
 - The header's comment of each refusal, its words, and `wordsOf` name the ranges of its figures.
@@ -47,13 +47,15 @@ FIGURES = [
     ("ballast", "readingsKept", "0.1 dB", 7),
     ("facade", "readingsKept", "", 7),
     ("opposite", "readingsKept", "degrees", 7),
+    ("wall", "screenedKept", "dm", 5),
     ("row", "rowKept", "", 8),
     ("speed", "speedKept", "km/h", 9),
     ("vehicles", "vehiclesKept", "", 10),
     ("day", "trainsKept", "", 11),
     ("night", "trainsKept", "", 11),
 ]
-SEGMENT = 14  # so many of them are a segment's
+SEGMENT = 15  # so many of them are a segment's
+SHORT = {"centimetres": "cm", "decimetres": "dm", "tenths of dB": "0.1 dB"}  # units that some tables write out
 
 
 def line_of(name):
@@ -164,14 +166,14 @@ def page_rows(text):
 
 def header_rows():
     table = HEADER.partition("A segment, in this order:")[2].partition("VEHICLE ROWS")[0]
-    return re.findall(r"^ \* +\d+  \S.*?  +(centimetres|tenths|degrees|0\.1 dB|km/h|) *((?:-?\d|the angle).*)$", table, re.M)
+    return re.findall(r"^ \* +\d+  \S.*?  +(centimetres|decimetres|tenths|degrees|0\.1 dB|km/h|) *((?:-?\d|the angle).*)$", table, re.M)
 
 
 def tables():
     expected = [(unit, written(field) if line else "") for field, line, unit, _ in FIGURES]
     for name in ["README.md", "docs/PLANNER.md", "docs/RULES.md", "include/railnoise.h"]:
         rows = header_rows() if name.endswith(".h") else page_rows((ROOT / name).read_text())
-        rows = [(unit.replace("centimetres", "cm").replace("tenths of dB", "0.1 dB"), figures(told)) for unit, told in rows]
+        rows = [(SHORT.get(unit, unit), figures(told)) for unit, told in rows]
         yield len(rows) == len(expected), f"{name} has {len(rows)} figures, not {len(expected)}"
         for (field, line, _, _), (unit, ours), (its_unit, told) in zip(FIGURES, expected, rows):
             if line:
@@ -198,8 +200,8 @@ def refusals():
     for name, words in re.findall(r'^wordsOf (\w+) = ascii "(.*)"$', spec(r"^wordsOf .*?\n\n")[0], re.M):
         told.append((f"wordsOf {name}", int(spec(rf"^numberOf {name} = (\d+)$")[1]), words))
     for number in range(1, 12):
-        fields = [field for field, line, _, refusal in FIGURES if line and refusal == number and field != "facade"]
-        ours = list(dict.fromkeys(map(written, fields)))  # day and night trains have one
+        # a facade has two values and no range; night trains are named with the day's
+        ours = [written(field) for field, line, _, refusal in FIGURES if line and refusal == number and field not in ("facade", "night")]
         sentences = [(place, sentence) for place, its, sentence in told if its == number]
         yield len(sentences) == 3, f"refusal {number} is told at {len(sentences)} places, not 3"
         for place, sentence in sentences:
@@ -215,7 +217,7 @@ def limits():
 
 
 def plain_program():
-    names = "D WINDOW MEAN SOFT VIEW TWICE SCREEN PLACE TOP CHART TRACK BALLAST FACADE OPPOSITE 0 1 2 3 4".split()
+    names = "D WINDOW MEAN SOFT VIEW TWICE SCREEN PLACE TOP CHART TRACK BALLAST FACADE OPPOSITE WALL 0 1 2 3 4".split()
     code = (ROOT / "host" / "c" / "plain.c").read_text().replace("n[D] - ", "d - ").replace("n[SCREEN] == 2 ? ", "").replace(" : 0", "")
     tests = re.findall(r"within\(n\[(\w+)\], ([^,()]+), ([^,()]+)\)", code)
     found = {name: f"{low} to {high}".replace("n[VIEW]", "θ") for name, low, high in tests}
