@@ -7,8 +7,8 @@
   figures; the screen has values and no range.
 - README.md, docs/PLANNER.md, docs/RULES.md and the header have a table of them each, with units.
 - The header's comment of each refusal, its words, and `wordsOf` name the ranges of its figures.
-- LIMITS are those of a study (`ours`), of a text's bytes (`readText`) and of its working cells (`cellsNeeded`). STATED has where they
-  stand.
+- LIMITS are those of a study (`ours`), of a text's bytes (`readText`), of its working cells (`cellsNeeded`), and the numbers on a
+  segment's and a train's line (`segmentOf`, `trainOf`). STATED has where they stand.
 - host/c/plain.c has the same ranges, and host/c/host_test.c tries both ends of each.
 """
 import pathlib
@@ -102,8 +102,11 @@ LIMITS = {
     "bytes": int(spec(r"^readText l text = cond \(leb \(length text\) (\d+)\)")[1]),
     "late_segment": SEGMENTS + 1,
     "late_entry": ENTRIES + 1,
+    "figures": int(spec(r"^segmentOf line = segmentAs \(exactly (\d+) \(")[1]),
+    "train_figures": int(spec(r"^trainOf line = trainAs \(exactly (\d+) \(")[1]),
 }
 WORDED = [
+    "a segment has {figures} numbers, a train {train_figures}, line 1 one more",
     "at most {bytes} bytes",
     "1 to {segments} segments, then each segment's number of train lines, 0 to {entries} and 1 to {entries} in all",
     "a study has at most {segments} segments",
@@ -111,8 +114,15 @@ WORDED = [
 ]
 # Where limits stand, each sentence with its numbers left open
 STATED = {
-    "README.md": ["up to {segments} segments of track and {entries} train entries"],
+    "README.md": [
+        "up to {segments} segments of track and {entries} train entries",
+        "each segment's line of {figures} numbers with its train lines of {train_figures} numbers",
+    ],
+    "docs/PLANNER.md": ["the open segment: {figures} numbers", "The {figures} numbers of a segment's line", "The {train_figures} numbers of a train line"],
     "docs/RULES.md": [
+        "A segment has {figures} figures",
+        "A train entry has {train_figures} figures",
+        "each segment's line of {figures} numbers, and after it its train lines of {train_figures} numbers",
         "up to {segments} segments and up to {entries} train entries in all",
         "A text has at most {bytes:,} bytes",
         "the segment count, 1 to {segments}, then each segment's entry count, 0 to {entries} each and 1 to {entries} in all",
@@ -125,6 +135,7 @@ STATED = {
         "THE TEXT OF A STUDY has at most {bytes:,} bytes",
         "number of segments, 1 to {segments}, then for each segment the number of its train entries,",
         "train entries, 0 to {entries} each and 1 to {entries} in all",
+        "Each segment's line of {figures} numbers follows, and after it the lines of its train entries, {train_figures} numbers each",
         "#define RAILNOISE_TEXT_LIMIT {bytes} ",
         "#define RAILNOISE_SEGMENT_LIMIT {segments} ",
         "#define RAILNOISE_ENTRY_LIMIT {entries} ",
@@ -248,6 +259,8 @@ def host_test():
 
 
 def results():
+    counts = SEGMENT, len(FIGURES) - SEGMENT
+    yield counts == (LIMITS["figures"], LIMITS["train_figures"]), f"a segment has {LIMITS['figures']} figures, a train {LIMITS['train_figures']}"
     yield set(BOUNDS) <= cited and len(BOUNDS) > 0, f"no range has the bounds {sorted(set(BOUNDS) - cited)}"
     for check in (tables, refusals, limits, plain_program, host_test):
         yield from check()
