@@ -56,7 +56,7 @@ impl Random {
     }
 }
 
-pub type SegmentNumbers = [i32; 14];
+pub type SegmentNumbers = [i32; 15];
 pub type EntryNumbers = [i32; 5];
 
 /// A study before it is written down; it may hold any numbers.
@@ -172,6 +172,7 @@ fn open_segment(random: &mut Random, lean: bool) -> SegmentNumbers {
         any(-30, 0),
         any(0, 1),
         any(0, view),
+        0,
     ]
 }
 

@@ -113,7 +113,7 @@ mod tests {
         read(text.as_bytes()).map_or_else(|r| (r.number, r.line), |_| (0, 0))
     }
 
-    const SEGMENT: &str = "2500 0 100 10 180 180 0 0 0 0 0 0 0 0\n";
+    const SEGMENT: &str = "2500 0 100 10 180 180 0 0 0 0 0 0 0 0 0\n";
 
     #[test]
     fn number_forms() {
@@ -144,6 +144,15 @@ mod tests {
         assert_eq!(refused(&format!("8000{}\n", counts(8000))), (13, 1));
         assert_eq!(refused("1 1"), (12, 1));
         assert_eq!(refused("1 1\n"), (13, 2));
+    }
+
+    #[test]
+    fn a_segment_has_fifteen_numbers() {
+        let short = SEGMENT.replacen(" 0\n", "\n", 1);
+        let long = SEGMENT.replacen('\n', " 0\n", 1);
+        for (line, outcome) in [(SEGMENT, (0, 0)), (&short, (12, 2)), (&long, (12, 2))] {
+            assert_eq!(refused(&format!("1 1\n{line}1 100 1 1 1\n")), outcome, "{line}");
+        }
     }
 
     #[test]

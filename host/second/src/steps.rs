@@ -204,6 +204,7 @@ mod tests {
         ballast_reading: 0,
         facade: 0,
         opposite_angle: 0,
+        wall: 0,
     };
 
     fn at(distance: i32) -> Segment {

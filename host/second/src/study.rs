@@ -1,8 +1,9 @@
-//! Segments, train entries and the refusals of their figures (01, "The study", "Turned back for a figure").
+//! Segments, train entries and the refusals of their figures (01, "The study", "Turned back for a figure";
+//! 02, L1).
 
 use crate::steps;
 
-/// Centimetres, degrees and tenths as entered.
+/// Centimetres, degrees, tenths and decimetres as entered.
 #[derive(Clone, Copy, PartialEq, Eq, Debug)]
 pub struct Segment {
     pub distance: i32,
@@ -20,6 +21,8 @@ pub struct Segment {
     pub ballast_reading: i32,
     pub facade: i32,
     pub opposite_angle: i32,
+    /// The far wall's height.
+    pub wall: i32,
 }
 
 #[derive(Clone, Copy, PartialEq, Eq, Debug)]
@@ -39,8 +42,8 @@ pub struct Study {
 }
 
 impl Segment {
-    /// From the 14 numbers of a segment's line, in their order.
-    pub fn from_numbers(n: &[i32; 14]) -> Segment {
+    /// From the 15 numbers of a segment's line, in their order.
+    pub fn from_numbers(n: &[i32; 15]) -> Segment {
         Segment {
             distance: n[0],
             window_height: n[1],
@@ -56,6 +59,7 @@ impl Segment {
             ballast_reading: n[11],
             facade: n[12],
             opposite_angle: n[13],
+            wall: n[14],
         }
     }
 
@@ -63,16 +67,17 @@ impl Segment {
         self.screen != 0
     }
 
-    /// Fields 7 to 10 within their lines, and no ballast reading with a screen.
+    /// Fields 7 to 10 and the far wall within their lines, and no ballast reading with a screen.
     fn screen_in_order(&self) -> bool {
         let reading_limit = if self.screen == 2 { 100 } else { 0 };
         let reading = (0..=reading_limit).contains(&self.reflection_reading);
         match self.screen {
-            0 => self.screen_distance == 0 && self.screen_top == 0 && reading,
+            0 => self.screen_distance == 0 && self.screen_top == 0 && reading && self.wall == 0,
             1 | 2 => {
                 (100..=self.distance - 100).contains(&self.screen_distance)
                     && (-2000..=5000).contains(&self.screen_top)
                     && reading
+                    && (0..=100).contains(&self.wall)
                     && self.ballast_reading == 0
             }
             _ => false,

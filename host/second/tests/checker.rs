@@ -79,7 +79,7 @@ fn an_answer_a_little_wrong_is_stopped() {
 
 /// d 25000, I 1: H 352 lies 1,200 microdecibels above a tie, H 348 as far below one.
 fn ground_line(height: i32) -> String {
-    format!("25000 0 {height} 1 180 180 0 0 0 0 0 0 0 0\n")
+    format!("25000 0 {height} 1 180 180 0 0 0 0 0 0 0 0 0\n")
 }
 
 const BOTH: &str = "1 100 1 100 100\n";
