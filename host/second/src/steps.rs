@@ -1,6 +1,6 @@
-//! The steps of 01. Each gives its fence (01's term): the largest whole number of microdecibels not
-//! above the formula's exact value. Ties lie on whole microdecibels, so the nearest tenth of the
-//! fence is the nearest tenth of the exact value.
+//! The steps of 01, with 02's L1. Each gives its fence (01's term): the largest whole number of
+//! microdecibels not above the formula's exact value. Ties lie on whole microdecibels, so the nearest
+//! tenth of the fence is the nearest tenth of the exact value.
 
 use std::sync::OnceLock;
 
@@ -109,8 +109,8 @@ pub fn in_shadow(segment: &Segment) -> bool {
     segment.screen_top as i64 * segment.distance as i64 >= segment.window_height as i64 * segment.screen_distance as i64
 }
 
-/// The screen step without the Chart 6(c) reading; lengths are in ten-millionths of a metre.
-pub fn screen(segment: &Segment) -> i64 {
+/// The screen correction with no far wall; lengths are in ten-millionths of a metre.
+pub fn screen_alone(segment: &Segment) -> i64 {
     let difference = path_difference(segment);
     if in_shadow(segment) {
         return multiple_of_log(-7_750_000, (52_000_000 + 203 * difference) as u64, 10_000_000).whole;
@@ -119,6 +119,26 @@ pub fn screen(segment: &Segment) -> i64 {
         return 0;
     }
     880_000 + multiple_of_log(2_140_000, (difference + 10_000) as u64, 10_000_000).whole
+}
+
+/// What the far wall takes off the screen correction: 0.5 dB for each metre of it, to the nearest metre
+/// with halves up; nothing below 15 decimetres, though 10 to 14 round to a metre.
+pub fn wall_loss(wall: i32) -> i64 {
+    if wall < 15 {
+        return 0;
+    }
+    500_000 * ((wall as i64 + 5) / 10)
+}
+
+/// The screen step without the Chart 6(c) reading: the correction, brought up by the far wall's loss. The
+/// cap at zero comes with a loss alone: without one, a correction a little above zero stays. Loss and cap
+/// are whole microdecibels, so both pass through the fence.
+pub fn screen(segment: &Segment) -> i64 {
+    let correction = screen_alone(segment);
+    match wall_loss(segment.wall) {
+        0 => correction,
+        loss => (correction + loss).min(0),
+    }
 }
 
 /// The nearest billionth of the first ten terms of the sine's power series, 0 to 90 degrees.
@@ -263,5 +283,30 @@ mod tests {
         assert!(!in_shadow(&lit));
         let edge = Segment { screen: 1, screen_distance: 1000, ..at(2500) };
         assert_eq!((path_difference(&edge), nearest_tenth(screen(&edge))), (0, -55));
+    }
+
+    #[test]
+    fn a_wall_counts_by_whole_metres_from_15_decimetres() {
+        for (wall, metres) in [(0, 0), (10, 0), (14, 0), (15, 2), (24, 2), (25, 3), (94, 9), (95, 10), (100, 10)] {
+            assert_eq!(wall_loss(wall), 500_000 * metres, "{wall}");
+        }
+    }
+
+    #[test]
+    fn the_cap_at_zero_comes_with_a_loss_alone() {
+        // 0.4 m exactly, in the light: 0.88 + 2.14 log 0.401 is above zero.
+        let lit = Segment { screen: 1, screen_distance: 630, screen_top: -160, ..at(1260) };
+        let above = screen(&lit);
+        assert!(above > 0);
+        for wall in [1, 10, 14] {
+            assert_eq!(screen(&Segment { wall, ..lit }), above, "{wall}");
+        }
+        for wall in [15, 24, 100] {
+            assert_eq!(screen(&Segment { wall, ..lit }), 0, "{wall}");
+        }
+        // In shadow no wall reaches the cap: the least correction is -5.55 dB and the most loss 5.
+        let edge = Segment { screen: 1, screen_distance: 1000, wall: 100, ..at(2500) };
+        assert_eq!(screen(&edge), screen_alone(&edge) + 5_000_000);
+        assert!(screen(&edge) < 0);
     }
 }

@@ -1,5 +1,10 @@
-//! Walls on the far side (02, L1): the fifteenth figure's refusals.
+//! Walls on the far side (02, L1): the fifteenth figure's refusals, and worked cases of the reduced step.
+//! Their figures were worked out apart from this implementation.
 
+use second::levels::{Period, Workings};
+use second::mock::levels;
+use second::reader::read;
+use second::steps::{nearest_tenth, screen};
 use second::study::Segment;
 
 /// A screen in a retained cut, without its far wall.
@@ -44,4 +49,59 @@ fn a_wall_is_judged_after_4_and_before_6_and_7() {
     assert_eq!((track.refusal(), Segment { wall: -1, ..track }.refusal()), (Some(7), Some(5)));
     assert_eq!(Segment { wall: 20, track_reading: 151, ..OPEN }.refusal(), Some(5));
     assert_eq!(Segment { wall: 101, double_angle: 181, ..CUT }.refusal(), Some(4));
+}
+
+/// The text of the cut with window, screen top and wall changed, and one train entry.
+fn text(segment: &Segment) -> Vec<u8> {
+    let Segment { window_height: h, screen_top: b, reflection_reading: c, screen, wall, .. } = segment;
+    format!("1 1\n6200 {h} 300 4 90 120 {screen} 900 {b} {c} 0 0 1 10 {wall}\n4 95 12 40 7\n").into_bytes()
+}
+
+/// Day and night level in tenths.
+fn answered(segment: &Segment) -> [i32; 2] {
+    let answer = levels(&text(segment), &mut [0; 2], false);
+    assert_eq!((answer.refusal, answer.day.close, answer.night.close), (0, 0, 0));
+    answer.periods().map(|period| period.level)
+}
+
+fn bare_by_day(segment: &Segment) -> Option<i64> {
+    let study = read(&text(segment)).expect("a good text");
+    Workings::of(&study).bare_level(Period::Day)
+}
+
+#[test]
+fn half_a_decibel_is_lost_for_each_metre() {
+    let steps = [(0, -147), (14, -147), (15, -137), (24, -137), (25, -132), (34, -132), (35, -127), (100, -97)];
+    for (wall, step) in steps {
+        let segment = Segment { wall, ..CUT };
+        assert_eq!(nearest_tenth(screen(&segment)), step, "{wall}");
+        assert_eq!(answered(&segment), [570 + step as i32, 543 + step as i32], "{wall}");
+    }
+    for (wall, bare) in [(0, 42_165_849), (14, 42_165_849), (15, 43_165_849), (24, 43_165_849)] {
+        assert_eq!(bare_by_day(&Segment { wall, ..CUT }), Some(bare), "{wall}");
+    }
+}
+
+#[test]
+fn the_reduced_step_stops_at_zero_before_the_reading() {
+    let lit = Segment { window_height: 800, screen_top: 60, ..CUT };
+    for (wall, step) in [(0, -27), (15, -17), (100, 0)] {
+        let segment = Segment { wall, ..lit };
+        assert_eq!(nearest_tenth(screen(&segment)), step, "{wall}");
+        assert_eq!(answered(&segment)[0], 569 + step as i32, "{wall}");
+        let reflective = Segment { screen: 2, reflection_reading: 27, ..segment };
+        assert_eq!(answered(&reflective)[0], 569 + step as i32 + 27, "{wall}");
+    }
+    assert_eq!(screen(&Segment { wall: 100, ..lit }), 0);
+}
+
+#[test]
+fn a_step_above_zero_stays_without_a_loss() {
+    let above = Segment { window_height: 312, screen_top: -202, ..CUT };
+    for (wall, fence, bare) in [(0, 16_972, 56_865_257), (14, 16_972, 56_865_257), (20, 0, 56_848_285)] {
+        let segment = Segment { wall, ..above };
+        assert_eq!(screen(&segment), fence, "{wall}");
+        assert_eq!(bare_by_day(&segment), Some(bare), "{wall}");
+        assert_eq!(answered(&segment)[0], 569, "{wall}");
+    }
 }
