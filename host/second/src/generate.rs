@@ -152,6 +152,10 @@ const REFLECTION: usize = 9;
 const TRACK: usize = 10;
 const BALLAST: usize = 11;
 const OPPOSITE: usize = 13;
+const WALL: usize = 14;
+
+/// On either side of the first loss and of a metre's half, and at the ends.
+const WALLS: [i32; 10] = [1, 14, 15, 24, 25, 34, 35, 94, 95, 100];
 
 /// Good figures, anywhere in their ranges or leaning to the ends; no screen yet.
 fn open_segment(random: &mut Random, lean: bool) -> SegmentNumbers {
@@ -176,12 +180,22 @@ fn open_segment(random: &mut Random, lean: bool) -> SegmentNumbers {
     ]
 }
 
+/// A far wall behind some screens, none behind most.
+fn any_wall(random: &mut Random) -> i32 {
+    match random.below(10) {
+        0..=2 => random.pick(&WALLS),
+        3 => random.between(0, 100),
+        _ => 0,
+    }
+}
+
 fn put_screen(segment: &mut SegmentNumbers, distance: i32, top: i32, random: &mut Random) {
     segment[SCREEN] = random.between(1, 2);
     segment[SCREEN_DISTANCE] = distance;
     segment[SCREEN_TOP] = top;
     segment[REFLECTION] = if segment[SCREEN] == 2 { random.leaning(0, 100) } else { 0 };
     segment[BALLAST] = 0;
+    segment[WALL] = any_wall(random);
 }
 
 fn is_good(segment: &SegmentNumbers) -> bool {
@@ -340,6 +354,24 @@ fn near_screen_tie(random: &mut Random, segment: &mut SegmentNumbers) {
     });
 }
 
+/// A screen in the light whose reduced step comes near zero, where the cap begins to act, or near the tie
+/// below it. In shadow no wall's loss reaches zero.
+fn near_wall_cap(random: &mut Random, segment: &mut SegmentNumbers) {
+    let wanted = random.pick(&[0, -TENTH / 2]);
+    keep_nearest(random, segment, 40, |random, trial| {
+        any_screen(random, trial);
+        let screened = Segment::from_numbers(trial);
+        if !is_good(trial) || steps::in_shadow(&screened) {
+            return None;
+        }
+        let alone = steps::screen_alone(&screened);
+        // The whole metres that come nearest, and any height that rounds to them.
+        let metres = ((wanted - alone) as f64 / 500_000.0).round().clamp(2.0, 10.0) as i32;
+        trial[WALL] = (10 * metres + random.between(-5, 4)).min(100);
+        Some((alone + steps::wall_loss(trial[WALL]) - wanted).abs() as f64)
+    });
+}
+
 fn near_angle_tie(random: &mut Random, segment: &mut SegmentNumbers) {
     (segment[VIEW], segment[DOUBLE]) = random.pick(&stock().angles);
     segment[OPPOSITE] = segment[OPPOSITE].min(segment[VIEW]);
@@ -366,7 +398,7 @@ fn one_sided_segment(random: &mut Random, louder: bool) -> SegmentNumbers {
     let mut best = open_segment(random, false);
     for _ in 0..50 {
         let mut trial = best;
-        (trial[SCREEN], trial[SCREEN_DISTANCE], trial[SCREEN_TOP], trial[REFLECTION]) = (0, 0, 0, 0);
+        [SCREEN, SCREEN_DISTANCE, SCREEN_TOP, REFLECTION, WALL].iter().for_each(|&field| trial[field] = 0);
         match random.below(4) {
             0 => near_distance_tie(random, &mut trial),
             1 => near_ground_tie(random, &mut trial),
@@ -399,7 +431,7 @@ fn good_segment(random: &mut Random) -> SegmentNumbers {
         } else if random.chance(25) {
             near_opposite_tie(random, &mut segment);
         }
-        match random.below(16) {
+        match random.below(17) {
             0 | 1 => any_screen(random, &mut segment),
             2 | 3 => near_distance_tie(random, &mut segment),
             4 => near_air_tie(random, &mut segment),
@@ -409,6 +441,7 @@ fn good_segment(random: &mut Random) -> SegmentNumbers {
             11 => near_path_limit(random, &mut segment, false),
             12 => near_screen_tie(random, &mut segment),
             13 => at_path_limit(random, &mut segment),
+            14 => near_wall_cap(random, &mut segment),
             _ => {}
         }
         if is_good(&segment) {

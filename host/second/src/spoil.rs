@@ -22,7 +22,7 @@ fn past(random: &mut Random, low: i32, high: i32) -> i32 {
 
 pub fn spoil_segment(random: &mut Random, n: &mut SegmentNumbers) {
     let screened = n[6] != 0;
-    match random.below(18) {
+    match random.below(20) {
         0 => n[0] = past(random, 1000, 30000),
         1 => n[1] = past(random, -5000, 5000),
         2 => n[2] = past(random, 0, 5000),
@@ -40,14 +40,24 @@ pub fn spoil_segment(random: &mut Random, n: &mut SegmentNumbers) {
         12 => n[12] = past(random, 0, 1),
         13 => n[13] = past(random, 0, n[4]),
         14 => n[9] = random.pick(&[1, -1, 101]),
-        // A screen far above the line of sight: over 2.5 m in shadow; with a second fault beside it at times.
+        // The far wall, at times with a later fault beside it.
         15 | 16 => {
+            n[14] = if screened { past(random, 0, 100) } else { random.pick(&[1, -1, 14, 15, 100]) };
+            if random.chance(30) {
+                n[10] = past(random, 0, 150);
+            }
+        }
+        // A screen far above the line of sight: over 2.5 m in shadow; at times with a later fault beside it,
+        // or an earlier one.
+        17 | 18 => {
             n[6] = 1;
             n[7] = random.between(100, (n[0] - 100).max(101));
             n[8] = random.between(3000, 5000);
             (n[9], n[11]) = (0, 0);
-            if random.chance(40) {
-                n[10] = past(random, 0, 150);
+            match random.below(5) {
+                0 | 1 => n[10] = past(random, 0, 150),
+                2 => n[14] = past(random, 0, 100),
+                _ => {}
             }
         }
         _ => n[6] = if screened { 0 } else { random.between(1, 2) },

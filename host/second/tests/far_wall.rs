@@ -1,10 +1,11 @@
-//! Walls on the far side (02, L1): the fifteenth figure's refusals, and worked cases of the reduced step.
-//! Their figures were worked out apart from this implementation.
+//! Walls on the far side (02, L1): the fifteenth figure's refusals, worked cases of the reduced step, whose
+//! figures were worked out apart from this implementation, and how often the generator comes to them.
 
+use second::generate::case;
 use second::levels::{Period, Workings};
 use second::mock::levels;
 use second::reader::read;
-use second::steps::{nearest_tenth, screen};
+use second::steps::{in_shadow, nearest_tenth, screen, screen_alone, wall_loss};
 use second::study::Segment;
 
 /// A screen in a retained cut, without its far wall.
@@ -104,4 +105,41 @@ fn a_step_above_zero_stays_without_a_loss() {
         assert_eq!(bare_by_day(&segment), Some(bare), "{wall}");
         assert_eq!(answered(&segment)[0], 569, "{wall}");
     }
+}
+
+/// Every line of 15 numbers in so many texts, good or refused.
+fn segments_of_texts(count: u64) -> Vec<Segment> {
+    let numbers = |line: &str| line.split(' ').map(|word| word.parse().ok()).collect::<Option<Vec<i32>>>();
+    let segment = |line: &str| numbers(line)?.try_into().ok().map(|list| Segment::from_numbers(&list));
+    let in_text = |text: Vec<u8>| String::from_utf8_lossy(&text).lines().filter_map(segment).collect::<Vec<Segment>>();
+    (0..count).flat_map(|index| in_text(case(13, index).text)).collect()
+}
+
+#[test]
+fn the_generator_comes_to_every_case() {
+    let segments = segments_of_texts(4000);
+    // By what is refused with the wall, and what without.
+    let count = |with: Option<u32>, without: Option<u32>, found: &dyn Fn(&Segment) -> bool| {
+        let judged = |s: &&Segment| (s.refusal(), Segment { wall: 0, ..**s }.refusal()) == (with, without);
+        segments.iter().filter(judged).filter(|s| found(s)).count()
+    };
+    let good = |found: &dyn Fn(&Segment) -> bool| count(None, None, found);
+    for height in [14, 15, 24, 25, 34, 100] {
+        assert!(good(&|s| s.wall == height) > 100, "{height}");
+    }
+    let walled = good(&|s| s.wall != 0);
+    assert!(walled > 2000 && good(&|s| s.wall == 0) > 3 * walled);
+    let loss = |s: &Segment| s.wall >= 15;
+    let reduced = |s: &Segment| screen_alone(s) + wall_loss(s.wall);
+    assert!(good(&|s| loss(s) && in_shadow(s)) > 500);
+    assert!(good(&|s| loss(s) && reduced(s) > 0) > 500);
+    assert!(good(&|s| loss(s) && !in_shadow(s) && reduced(s) <= 0) > 500);
+    assert!(good(&|s| loss(s) && reduced(s).abs() < 10_000) > 50);
+    assert!(good(&|s| loss(s) && (reduced(s) + 50_000).abs() < 10_000) > 50);
+    assert!(good(&|s| s.screened() && !loss(s) && screen(s) > 0) > 200);
+    for wall in [-1, 101] {
+        assert!(count(Some(5), None, &|s| s.screened() && s.wall == wall) > 3, "{wall}");
+    }
+    assert!(count(Some(5), None, &|s| !s.screened()) > 10);
+    assert!(count(Some(5), Some(6), &|_| true) > 5 && count(Some(5), Some(7), &|_| true) > 5);
 }
