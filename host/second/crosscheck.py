@@ -61,7 +61,7 @@ def path(d, h, place, top):
 
 
 def segment_refusal(n):
-    d, h, mean, soft, view, twice, screen, place, top, chart, track, ballast, facade, opposite = n
+    d, h, mean, soft, view, twice, screen, place, top, chart, track, ballast, facade, opposite, wall = n
     inside = lambda value, low, high: low <= value <= high
     if not inside(d, 1000, 30000):
         return 1
@@ -73,10 +73,10 @@ def segment_refusal(n):
         return 4
     if screen not in (0, 1, 2):
         return 5
-    if screen == 0 and (place, top, chart) != (0, 0, 0):
+    if screen == 0 and (place, top, chart, wall) != (0, 0, 0, 0):
         return 5
     if screen and not (inside(place, 100, d - 100) and inside(top, -2000, 5000) and ballast == 0
-                       and inside(chart, 0, 100 if screen == 2 else 0)):
+                       and inside(chart, 0, 100 if screen == 2 else 0) and inside(wall, 0, 100)):
         return 5
     if screen and top * d >= h * place and path(d, h, place, top) > 25_000_000:
         return 6
@@ -119,7 +119,7 @@ def read(text):
     if not 1 <= plan[0] <= 24 or not all(0 <= count <= 96 for count in counts) or not 1 <= sum(counts) <= 96:
         return 13, 1
     for count in counts:
-        segment, fault = numbers(14)
+        segment, fault = numbers(15)
         fault = fault or (segment_refusal(segment) and (segment_refusal(segment), position))
         if fault:
             return fault
@@ -135,9 +135,17 @@ def read(text):
     return segments
 
 
+def behind_wall(correction, wall):
+    """The screen correction with the far wall's loss, exactly; the cap at zero only where there is a loss."""
+    if wall < 15:
+        return correction
+    metres = (Fraction(wall, 10) + Fraction(1, 2)).__floor__()
+    return min(Decimal(0), correction + 500_000 * metres)
+
+
 def segment_steps(n):
     """Fixed tenths, the ground step's (tenth, mark) choices, and the fence of all."""
-    d, h, mean, soft, view, twice, screen, place, top, chart, track, ballast, facade, opposite = n
+    d, h, mean, soft, view, twice, screen, place, top, chart, track, ballast, facade, opposite, wall = n
     square = d * d + h * h
     root = isqrt(6400 * square)
     air = 200_000 - (root if root * root == 6400 * square else root + 1)
@@ -150,9 +158,12 @@ def segment_steps(n):
     if screen:
         delta = path(d, h, place, top)
         if top * d >= h * place:
-            steps.append(-7_750_000 * log(52_000_000 + 203 * delta, 10**7))
+            correction = -7_750_000 * log(52_000_000 + 203 * delta, 10**7)
         elif delta <= 4_000_000:
-            steps.append(880_000 + 2_140_000 * log(delta + 10_000, 10**7))
+            correction = 880_000 + 2_140_000 * log(delta + 10_000, 10**7)
+        else:
+            correction = Decimal(0)
+        steps.append(behind_wall(correction, wall))
     elif d > 2500:
         ground = -600 * soft * (600 - min(max(mean, 100), 600)) * log(d, 2500)
     # The difference of two rounded logarithms may miss a whole value by the last digits.
