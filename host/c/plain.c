@@ -20,7 +20,7 @@
 #define MOST_ENTRIES 96
 #define PI 3.141592654
 
-enum { D, WINDOW, MEAN, SOFT, VIEW, TWICE, SCREEN, PLACE, TOP, CHART, TRACK, BALLAST, FACADE, OPPOSITE, FIELDS };
+enum { D, WINDOW, MEAN, SOFT, VIEW, TWICE, SCREEN, PLACE, TOP, CHART, TRACK, BALLAST, FACADE, OPPOSITE, WALL, FIELDS };
 
 typedef struct {
     long n[FIELDS];
@@ -141,9 +141,10 @@ static uint32_t segment_refusal(const long *n)
         return 4;
     if (!within(n[SCREEN], 0, 2) || !within(n[CHART], 0, n[SCREEN] == 2 ? 100 : 0))
         return 5;
-    if (n[SCREEN] == 0 && (n[PLACE] != 0 || n[TOP] != 0))
+    if (n[SCREEN] == 0 && (n[PLACE] != 0 || n[TOP] != 0 || n[WALL] != 0))
         return 5;
-    if (n[SCREEN] != 0 && (!within(n[PLACE], 100, n[D] - 100) || !within(n[TOP], -2000, 5000) || n[BALLAST] != 0))
+    if (n[SCREEN] != 0 && (!within(n[PLACE], 100, n[D] - 100) || !within(n[TOP], -2000, 5000) ||
+                           !within(n[WALL], 0, 100) || n[BALLAST] != 0))
         return 5;
     if (n[SCREEN] != 0 && in_shadow(n) && path_difference(n) > 2.5)
         return 6;
@@ -166,10 +167,16 @@ static uint32_t entry_refusal(const long *n)
 
 static double screen_step(const long *n)
 {
-    double difference = path_difference(n);
+    double difference = path_difference(n), step = 0.0;
     if (in_shadow(n))
-        return -7.75 * log10(5.2 + 203.0 * difference);
-    return difference <= 0.4 ? 0.88 + 2.14 * log10(difference + 0.001) : 0.0;
+        step = -7.75 * log10(5.2 + 203.0 * difference);
+    else if (difference <= 0.4)
+        step = 0.88 + 2.14 * log10(difference + 0.001);
+    if (n[WALL] < 15)
+        return step;
+    /* Half a decibel less for each whole metre of the far wall; the step then ends at zero. */
+    step += 0.5 * (double)((n[WALL] + 5) / 10);
+    return step > 0.0 ? 0.0 : step;
 }
 
 static double ground_step(const long *n)
