@@ -106,7 +106,7 @@ checkout built
 run=$build/built/railnoise.sh
 sample=$build/built/crates/railnoise/stdin
 answer='period level close met\nday 62.9 0 no\nnight 56.3 0 no\n'
-other='1 1\n2500 0 600 0 180 180 0 0 0 0 0 0 0 0\n1 100 1 1 0\n'
+other='1 1\n2500 0 600 0 180 180 0 0 0 0 0 0 0 0 0\n1 100 1 1 0\n'
 other_answer='period level close met\nday 37.9 0 no\nnight silent 0 no\n'
 printf %b "$other" >"$build/other"
 printf '1 1\n' >"$build/short"

@@ -81,7 +81,7 @@ full() {
         for (i = 1; i <= 24; i++) printf " 4"
         print ""
         for (i = 1; i <= 96; i++) {
-            if (i % 4 == 1) print "30000 5000 5000 10 180 180 2 29900 -2000 100 150 0 1 180"
+            if (i % 4 == 1) print "30000 5000 5000 10 180 180 2 29900 -2000 100 150 0 1 180 100"
             print "34", i < 96 ? 300 : last, "60 2000 2000"
         }
     }'
@@ -92,31 +92,32 @@ run 'sample' "$(lines '62.9 0 no' '56.3 0 no')"
 
 near='2500 0 600 0 180 180 0 0 0 0'
 narrow='2500 0 600 0 5 5 0 0 0 0'
-answered 'zero has no minus' "1 1\n$narrow 6 0 0 0\n1 100 1 1 1\n" '0.0 0 no' '4.8 0 no'
-answered 'minus below one decibel' "1 1\n$narrow 2 0 0 0\n1 100 1 1 1\n" '-0.4 0 no' '4.4 0 no'
-answered 'two digits below zero' '1 1\n30000 0 600 0 5 5 0 0 0 0 36 0 0 0\n1 100 1 1 1\n' '-10.0 0 no' '-5.2 0 no'
-answered 'three digits, met, silent' "1 1\n$near 116 0 0 0\n1 100 60 2000 0\n" '100.3 0 yes' 'silent 0 no'
-answered 'silent by day' "1 1\n$near 0 0 0 0\n1 100 1 0 1\n" 'silent 0 no' '42.7 0 no'
-answered 'silent throughout' "1 1\n$near 0 0 0 0\n1 100 1 0 0\n" 'silent 0 no' 'silent 0 no'
-answered 'close count 1' '1 1\n25000 0 350 5 180 180 0 0 0 0 0 0 0 0\n1 100 1 1 0\n' '25.4 1 no' 'silent 0 no'
-answered '67.5 by day is met' "1 1\n$near 136 0 1 0\n1 150 10 1 0\n" '67.5 0 yes' 'silent 0 no'
-answered '67.4 by day is not met' "1 1\n$near 135 0 1 0\n1 150 10 1 0\n" '67.4 0 no' 'silent 0 no'
-answered '62.5 by night is met' "1 1\n$near 38 0 1 0\n1 150 10 0 1\n" 'silent 0 no' '62.5 0 yes'
-answered '62.4 by night is not met' "1 1\n$near 37 0 1 0\n1 150 10 0 1\n" 'silent 0 no' '62.4 0 no'
+answered 'zero has no minus' "1 1\n$narrow 6 0 0 0 0\n1 100 1 1 1\n" '0.0 0 no' '4.8 0 no'
+answered 'minus below one decibel' "1 1\n$narrow 2 0 0 0 0\n1 100 1 1 1\n" '-0.4 0 no' '4.4 0 no'
+answered 'two digits below zero' '1 1\n30000 0 600 0 5 5 0 0 0 0 36 0 0 0 0\n1 100 1 1 1\n' '-10.0 0 no' '-5.2 0 no'
+answered 'three digits, met, silent' "1 1\n$near 116 0 0 0 0\n1 100 60 2000 0\n" '100.3 0 yes' 'silent 0 no'
+answered 'silent by day' "1 1\n$near 0 0 0 0 0\n1 100 1 0 1\n" 'silent 0 no' '42.7 0 no'
+answered 'silent throughout' "1 1\n$near 0 0 0 0 0\n1 100 1 0 0\n" 'silent 0 no' 'silent 0 no'
+answered 'close count 1' '1 1\n25000 0 350 5 180 180 0 0 0 0 0 0 0 0 0\n1 100 1 1 0\n' '25.4 1 no' 'silent 0 no'
+answered '67.5 by day is met' "1 1\n$near 136 0 1 0 0\n1 150 10 1 0\n" '67.5 0 yes' 'silent 0 no'
+answered '67.4 by day is not met' "1 1\n$near 135 0 1 0 0\n1 150 10 1 0\n" '67.4 0 no' 'silent 0 no'
+answered '62.5 by night is met' "1 1\n$near 38 0 1 0 0\n1 150 10 0 1\n" 'silent 0 no' '62.5 0 yes'
+answered '62.4 by night is not met' "1 1\n$near 37 0 1 0 0\n1 150 10 0 1\n" 'silent 0 no' '62.4 0 no'
 
-# 14.8 + 80.7 + 17.8 + 33.0 - 48.1 - 10.9 - 2.2 + 10.0 + 15.0 + 2.5 + 1.5 is 114.1, and 96 like levels add 19.8.
+# 14.8 + 80.7 + 17.8 + 33.0 - 48.1 - 10.9 - 2.2 + 10.0 + 15.0 + 2.5 + 1.5 is 114.1, and 96 like levels add 19.8. The screen is 0.0,
+# behind a far wall too.
 full 300 >"$text"
 run 'full study' "$(lines '133.9 0 yes' '138.7 0 yes')"
 full 301 >"$text"
 run 'refused at the last line of a full study' 'refused 9 line 121\n'
 
-refused 'speed 19' "1 1\n$near 0 0 0 0\n1 19 1 1 1\n" 9 3
+refused 'speed 19' "1 1\n$near 0 0 0 0 0\n1 19 1 1 1\n" 9 3
 grep -qx 'railnoise: refused 9 line 3: speed must be 20 to 300 km/h' "$noticed" || { echo 'WRONG: the words of refusal 9'; wrong=$((wrong + 1)); }
-refused 'two digits of a refusal' "1 1\n$near 0 0 0 0\n1 100 61 1 1\n" 10 3
-refused 'distance 999' '1 1\n999 0 600 0 180 180 0 0 0 0 0 0 0 0\n1 100 1 1 1\n' 1 2
+refused 'two digits of a refusal' "1 1\n$near 0 0 0 0 0\n1 100 61 1 1\n" 10 3
+refused 'distance 999' '1 1\n999 0 600 0 180 180 0 0 0 0 0 0 0 0 0\n1 100 1 1 1\n' 1 2
 refused 'missing line' '1 1\n' 13 2
-refused 'extra line without a line feed' "1 1\n$near 0 0 0 0\n1 100 1 1 1\nx" 13 4
-refused 'last line without a line feed' "1 1\n$near 0 0 0 0\n1 100 1 1 1" 12 3
+refused 'extra line without a line feed' "1 1\n$near 0 0 0 0 0\n1 100 1 1 1\nx" 13 4
+refused 'last line without a line feed' "1 1\n$near 0 0 0 0 0\n1 100 1 1 1" 12 3
 refused 'empty text' '' 13 1
 
 for bytes in 16384 16385 40000; do

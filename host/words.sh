@@ -35,22 +35,22 @@ told() {
 
 near='2500 0 600 0 180 180'
 train='1 100 1 1 1'
-told 0 0 "1 1\n$near 0 0 0 0 0 0 0 0\n$train\n"
-told 1 2 "1 1\n999 0 600 0 180 180 0 0 0 0 0 0 0 0\n$train\n"
-told 2 2 "1 1\n2500 5001 600 0 180 180 0 0 0 0 0 0 0 0\n$train\n"
-told 3 2 "1 1\n2500 0 600 11 180 180 0 0 0 0 0 0 0 0\n$train\n"
-told 4 2 "1 1\n2500 0 600 0 4 180 0 0 0 0 0 0 0 0\n$train\n"
-told 5 2 "1 1\n$near 3 0 0 0 0 0 0 0\n$train\n"
-told 6 2 "1 1\n$near 1 1000 5000 0 0 0 0 0\n$train\n"
-told 7 2 "1 1\n$near 0 0 0 0 151 0 0 0\n$train\n"
-told 8 3 "1 1\n$near 0 0 0 0 0 0 0 0\n35 100 1 1 1\n"
-told 9 3 "1 1\n$near 0 0 0 0 0 0 0 0\n1 19 1 1 1\n"
-told 10 3 "1 1\n$near 0 0 0 0 0 0 0 0\n1 100 61 1 1\n"
-told 11 3 "1 1\n$near 0 0 0 0 0 0 0 0\n1 100 1 2001 1\n"
-told 12 3 "1 1\n$near 0 0 0 0 0 0 0 0\n1 100 1 1.5 1\n"
+told 0 0 "1 1\n$near 0 0 0 0 0 0 0 0 0\n$train\n"
+told 1 2 "1 1\n999 0 600 0 180 180 0 0 0 0 0 0 0 0 0\n$train\n"
+told 2 2 "1 1\n2500 5001 600 0 180 180 0 0 0 0 0 0 0 0 0\n$train\n"
+told 3 2 "1 1\n2500 0 600 11 180 180 0 0 0 0 0 0 0 0 0\n$train\n"
+told 4 2 "1 1\n2500 0 600 0 4 180 0 0 0 0 0 0 0 0 0\n$train\n"
+told 5 2 "1 1\n$near 3 0 0 0 0 0 0 0 0\n$train\n"
+told 6 2 "1 1\n$near 1 1000 5000 0 0 0 0 0 0\n$train\n"
+told 7 2 "1 1\n$near 0 0 0 0 151 0 0 0 0\n$train\n"
+told 8 3 "1 1\n$near 0 0 0 0 0 0 0 0 0\n35 100 1 1 1\n"
+told 9 3 "1 1\n$near 0 0 0 0 0 0 0 0 0\n1 19 1 1 1\n"
+told 10 3 "1 1\n$near 0 0 0 0 0 0 0 0 0\n1 100 61 1 1\n"
+told 11 3 "1 1\n$near 0 0 0 0 0 0 0 0 0\n1 100 1 2001 1\n"
+told 12 3 "1 1\n$near 0 0 0 0 0 0 0 0 0\n1 100 1 1.5 1\n"
 told 12 0 "$(printf '%16385s' '')"
 told 13 1 ''
-told 13 4 "1 1\n$near 0 0 0 0 0 0 0 0\n$train\n$train\n"
+told 13 4 "1 1\n$near 0 0 0 0 0 0 0 0 0\n$train\n$train\n"
 
 echo "words: $cases texts, $wrong told otherwise"
 [ "$wrong" -eq 0 ]

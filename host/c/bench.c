@@ -52,11 +52,11 @@ static size_t write_study(char *text, int segments, int entries, int last_speed,
         int i = place % different;
         int d = 4000 + 1013 * i, view = 20 + 6 * i;
         if (i % 2 == 0)
-            at += sprintf(at, "%d %d %d %d %d %d 0 0 0 0 10 -15 1 %d\n", d, 330 - 20 * i, 150 + 17 * i, i % 11, view,
+            at += sprintf(at, "%d %d %d %d %d %d 0 0 0 0 10 -15 1 %d 0\n", d, 330 - 20 * i, 150 + 17 * i, i % 11, view,
                           view + 5, view / 3);
         else
-            at += sprintf(at, "%d %d 235 0 %d %d 2 500 %d 38 10 0 1 %d\n", d, 330 - 20 * i, view, view + 5, 100 + 2 * i,
-                          view / 3);
+            at += sprintf(at, "%d %d 235 0 %d %d 2 500 %d 38 10 0 1 %d 0\n", d, 330 - 20 * i, view, view + 5,
+                          100 + 2 * i, view / 3);
         for (int k = 0; k < entries; k++) {
             int speed = place == segments - 1 && k == entries - 1 ? last_speed : 40 + 2 * i + 40 * k;
             at += sprintf(at, "%d %d %d %d %d\n", 1 + (4 * i + k) % 34, speed, 1 + (7 * i + k) % 60, 3 + 20 * i + 5 * k,

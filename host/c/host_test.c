@@ -129,8 +129,9 @@ static void expect_period(railnoise_period p, int32_t level, uint32_t close, boo
 }
 
 /* A segment with no step but those the changed fields bring, and a train of level 37.9 by day. */
-static const int32_t plain_segment[14] = { 2500, 0, 600, 0, 180, 180, 0, 0, 0, 0, 0, 0, 0, 0 };
-static const int32_t screened_segment[14] = { 2500, 0, 600, 0, 180, 180, 2, 1000, 0, 0, 0, 0, 0, 0 };
+enum { FIGURES = 15 };
+static const int32_t plain_segment[FIGURES] = { 2500, 0, 600, 0, 180, 180, 0, 0, 0, 0, 0, 0, 0, 0, 0 };
+static const int32_t screened_segment[FIGURES] = { 2500, 0, 600, 0, 180, 180, 2, 1000, 0, 0, 0, 0, 0, 0, 0 };
 static const int32_t plain_train[5] = { 1, 100, 1, 1, 1 };
 enum { PLAIN_DAY = 148 + 712 - 481, PLAIN_NIGHT = 148 + 712 - 433 };
 
@@ -142,19 +143,19 @@ static char *put_numbers(char *at, const int32_t *numbers, int count)
 }
 
 /* The text of one segment with one train. */
-static const char *one(const int32_t segment[14], const int32_t train[5])
+static const char *one(const int32_t segment[FIGURES], const int32_t train[5])
 {
     static char text[400];
     char *at = text + sprintf(text, "1 1\n");
-    at = put_numbers(at, segment, 14);
+    at = put_numbers(at, segment, FIGURES);
     put_numbers(at, train, 5);
     return text;
 }
 
 /* The same with up to three fields of the segment changed; a pair ends at field -1. */
-static const char *one_with(const int32_t base[14], const int32_t (*changes)[2])
+static const char *one_with(const int32_t base[FIGURES], const int32_t (*changes)[2])
 {
-    int32_t segment[14];
+    int32_t segment[FIGURES];
     memcpy(segment, base, sizeof segment);
     for (int i = 0; i < 3 && changes[i][0] >= 0; i++)
         segment[changes[i][0]] = changes[i][1];
@@ -174,18 +175,18 @@ static void test_sample(void)
 
 static void test_examples(void)
 {
-    outcome o = ask("1 1\n10000 330 235 10 180 180 0 0 0 0 0 0 1 0\n1 150 10 179 13\n", 2);
+    outcome o = ask("1 1\n10000 330 235 10 180 180 0 0 0 0 0 0 1 0 0\n1 150 10 179 13\n", 2);
     expect_period(o.answer.day, 685, 0, true, "Example 2 by day");
     expect_period(o.answer.night, 619, 0, false, "Example 2 by night");
     CHECK(o.cells[0] == 685 && o.cells[1] == 619, "Example 2's cells");
     /* Example 1's 63.1 and 67.1: Chart 9 gives 68.6, not the printed 68.5. */
-    o = ask("2 1 1\n2500 0 600 0 180 180 0 0 0 0 92 0 1 0\n1 150 10 1 0\n"
-            "2500 0 600 0 180 180 0 0 0 0 132 0 1 0\n1 150 10 1 0\n", 4);
+    o = ask("2 1 1\n2500 0 600 0 180 180 0 0 0 0 92 0 1 0 0\n1 150 10 1 0\n"
+            "2500 0 600 0 180 180 0 0 0 0 132 0 1 0 0\n1 150 10 1 0\n", 4);
     CHECK(o.cells[0] == 631 && o.cells[1] == 671, "Example 1's levels");
     expect_period(o.answer.day, 686, 0, true, "Example 1 by Chart 9");
     CHECK(same_period(o.answer.night, silent_period), "Example 1 silent by night");
     /* 60.0 with 60.0. */
-    o = ask("1 2\n2500 0 600 0 180 180 0 0 0 0 121 0 0 0\n1 100 10 1 0\n1 100 10 1 0\n", 4);
+    o = ask("1 2\n2500 0 600 0 180 180 0 0 0 0 121 0 0 0 0\n1 100 10 1 0\n1 100 10 1 0\n", 4);
     CHECK(o.cells[0] == 600 && o.cells[1] == 600 && o.cells[2] == SILENT && o.cells[3] == SILENT, "60.0 twice");
     expect_period(o.answer.day, 630, 0, false, "60.0 with 60.0");
 }
@@ -283,7 +284,7 @@ static void test_verdicts(void)
         { 136, 675, true, true }, { 135, 674, true, false }, { 38, 625, false, true }, { 37, 624, false, false },
     };
     for (size_t i = 0; i < sizeof cases / sizeof *cases; i++) {
-        int32_t segment[14];
+        int32_t segment[FIGURES];
         memcpy(segment, plain_segment, sizeof segment);
         segment[10] = cases[i].track;
         segment[12] = 1;
@@ -291,7 +292,7 @@ static void test_verdicts(void)
         expect_period(cases[i].day ? o.answer.day : o.answer.night, cases[i].level, 0, cases[i].met, "verdict");
     }
     static const int32_t quiet[5] = { 8, 20, 1, 1, 1 };
-    int32_t far[14];
+    int32_t far[FIGURES];
     memcpy(far, plain_segment, sizeof far);
     far[0] = 30000;
     far[4] = far[5] = 5;
@@ -312,10 +313,10 @@ static void test_silence(void)
     CHECK(same_period(o.answer.day, silent_period) && same_period(o.answer.night, silent_period), "no trains at all");
     CHECK(o.cells[0] == SILENT && o.cells[1] == SILENT, "no trains at all");
     /* Two marked segments, one heard by day only, one without entries, and a second train by night. */
-    o = ask("4 2 0 1 1\n25000 0 350 5 180 180 0 0 0 0 0 0 0 0\n1 100 1 1 0\n1 100 1 1 0\n"
-            "25000 0 350 5 180 180 0 0 0 0 0 0 0 0\n"
-            "25000 0 350 5 180 180 0 0 0 0 0 0 0 0\n1 100 1 0 0\n"
-            "2500 0 600 0 180 180 0 0 0 0 0 0 0 0\n1 100 1 0 1\n", 8);
+    o = ask("4 2 0 1 1\n25000 0 350 5 180 180 0 0 0 0 0 0 0 0 0\n1 100 1 1 0\n1 100 1 1 0\n"
+            "25000 0 350 5 180 180 0 0 0 0 0 0 0 0 0\n"
+            "25000 0 350 5 180 180 0 0 0 0 0 0 0 0 0\n1 100 1 0 0\n"
+            "2500 0 600 0 180 180 0 0 0 0 0 0 0 0 0\n1 100 1 0 1\n", 8);
     expect_period(o.answer.day, PLAIN_DAY - 125 + 30, 1, false, "one marked segment by day");
     expect_period(o.answer.night, PLAIN_NIGHT, 0, false, "no marked segment by night");
     static const int32_t cells[8] = { 254, 254, SILENT, SILENT, SILENT, SILENT, SILENT, PLAIN_NIGHT };
@@ -338,7 +339,7 @@ static void try_range(const int32_t *segment, const int32_t *train, bool of_trai
     CHECK(!c->told || strstr(railnoise_refusal_words(c->refusal), range) != NULL, range);
     const int32_t values[4] = { c->low, c->high, c->low - 1, c->high + 1 };
     for (int i = 0; i < 4; i++) {
-        int32_t s[14], t[5];
+        int32_t s[FIGURES], t[5];
         memcpy(s, segment, sizeof s);
         memcpy(t, train, sizeof t);
         (of_train ? t : s)[c->field] = values[i];
@@ -417,7 +418,7 @@ static void test_segment_refusals(void)
     expect_refusal(one(plain_segment, (const int32_t[5]){ 34, 300, 61, 2001, 0 }), 10, 3);
 }
 
-#define SEGMENT "2500 0 600 0 180 180 0 0 0 0 0 0 0 0\n"
+#define SEGMENT "2500 0 600 0 180 180 0 0 0 0 0 0 0 0 0\n"
 #define TRAIN "1 100 1 1 1\n"
 
 static void test_text_form(void)
@@ -436,8 +437,8 @@ static void test_text_form(void)
     }
     static const struct { const char *text; uint32_t number, line; } cases[] = {
         { "1 1\n" SEGMENT "1 100 1 1 -99999\n", 11, 3 },
-        { "1 1\n2500 0 600 0 180 180 0 0 0 0 0 0 0\n" TRAIN, 12, 2 },
-        { "1 1\n2500 0 600 0 180 180 0 0 0 0 0 0 0 0 0\n" TRAIN, 12, 2 },
+        { "1 1\n2500 0 600 0 180 180 0 0 0 0 0 0 0 0\n" TRAIN, 12, 2 },
+        { "1 1\n2500 0 600 0 180 180 0 0 0 0 0 0 0 0 0 0\n" TRAIN, 12, 2 },
         { "1 1\n" SEGMENT "1 100 1 1\n", 12, 3 },
         { "1 1\n" SEGMENT "1 100 1 1 1 1\n", 12, 3 },
         { "1 1\n" SEGMENT "99 100 1 1\n", 12, 3 },
@@ -450,7 +451,7 @@ static void test_text_form(void)
         { "\n", 12, 1 },
         { "1 1\n\n" TRAIN, 12, 2 },
         /* A refused line ends the reading: what follows does not matter. */
-        { "1 1\n999 0 600 0 180 180 0 0 0 0 0 0 0 0\nx\n", 1, 2 },
+        { "1 1\n999 0 600 0 180 180 0 0 0 0 0 0 0 0 0\nx\n", 1, 2 },
         { "1 1\n" SEGMENT "1 19 1 1 1\nx", 9, 3 },
     };
     for (size_t i = 0; i < sizeof cases / sizeof *cases; i++)
@@ -506,7 +507,7 @@ static size_t full_study(char *text)
 {
     char *at = put_contents(text, 24, 4);
     for (int i = 0; i < 24; i++) {
-        at += sprintf(at, "30000 5000 5000 10 180 180 2 29900 -2000 100 150 0 1 180\n");
+        at += sprintf(at, "30000 5000 5000 10 180 180 2 29900 -2000 100 150 0 1 180 100\n");
         for (int k = 0; k < 4; k++)
             at += sprintf(at, "34 300 60 2000 2000\n");
     }
@@ -529,7 +530,8 @@ static void test_cells(void)
     expect_refusal_bytes(text, length, RAILNOISE_MOST_CELLS - 1, 24, 0);
     o = ask_bytes(text, length, RAILNOISE_MOST_CELLS);
     /* 14.8 + 80.7 + 17.8 + 33.0 - 48.1 by day, - 10.9 - 2.2 at 304.14 m, 0.0 for the screen (over 0.4 m off
-     * the line of sight) and for the angle, + 10.0 + 15.0 + 2.5 + 1.5; 96 like levels add 19.8. */
+     * the line of sight, and no more behind a far wall) and for the angle, + 10.0 + 15.0 + 2.5 + 1.5; 96 like
+     * levels add 19.8. */
     CHECK(o.answer.refusal == 0 && all(o.cells, 96, 1141) && all(o.cells + 96, 96, 1189), "full study's cells");
     expect_period(o.answer.day, 1141 + 198, 0, true, "full study by day");
     expect_period(o.answer.night, 1189 + 198, 0, true, "full study by night");
@@ -611,7 +613,7 @@ static void test_words(void)
         { 4, "5 to 180 degrees" }, { 5, "0, 1 or 2" },      { 5, "-2000 to 5000 cm" }, { 5, "100 cm less than the distance" },
         { 6, "2.5 m" },            { 7, "0 or 1" },         { 12, "1 to 5 digits" },   { 12, "decimal point" },
         { 12, "tab" },             { 12, "second space" },  { 12, "carriage return" }, { 12, "the last too" },
-        { 12, "14 numbers" },      { 12, "16384 bytes" },   { 13, "1 to 24 segments" }, { 13, "1 to 96 in all" },
+        { 12, "15 numbers" },      { 12, "16384 bytes" },   { 13, "1 to 24 segments" }, { 13, "1 to 96 in all" },
         { 21, "24" },              { 22, "96" },            { 24, "2 for each" },
     };
     for (size_t i = 0; i < sizeof rules / sizeof *rules; i++)

@@ -7,11 +7,11 @@
 /* Document 01's sample, which is the memorandum's Example 8. */
 static const char sample[] =
     "3 1 1 1\n"
-    "10000 330 235 10 29 29 0 0 0 0 0 0 1 0\n"
+    "10000 330 235 10 29 29 0 0 0 0 0 0 1 0 0\n"
     "1 150 10 179 13\n"
-    "10000 330 235 0 115 173 2 500 130 38 0 0 1 0\n"
+    "10000 330 235 0 115 173 2 500 130 38 0 0 1 0 0\n"
     "1 150 10 179 13\n"
-    "10000 330 235 10 36 36 0 0 0 0 0 0 1 0\n"
+    "10000 330 235 10 36 36 0 0 0 0 0 0 1 0 0\n"
     "1 150 10 179 13\n";
 
 /* Puts the contents line of so many segments with so many train entries each, and gives the place after it. */
