@@ -357,11 +357,11 @@ static void test_ranges(void)
     static const range_case open_fields[] = {
         { 0, 1000, 30000, 1, true }, { 1, -5000, 5000, 2, true }, { 2, 0, 5000, 2, true }, { 3, 0, 10, 3, true },
         { 7, 0, 0, 5, false },       { 8, 0, 0, 5, false },       { 9, 0, 0, 5, false },   { 10, 0, 150, 7, true },
-        { 11, -30, 0, 7, true },     { 12, 0, 1, 7, false },      { 13, 0, 180, 7, false },
+        { 11, -30, 0, 7, true },     { 12, 0, 1, 7, false },      { 13, 0, 180, 7, false }, { 14, 0, 0, 5, false },
     };
     static const range_case screen_fields[] = {
         { 2, 0, 5000, 2, true },  { 3, 0, 10, 3, true }, { 7, 100, 2400, 5, false }, { 9, 0, 100, 5, true },
-        { 10, 0, 150, 7, true },  { 11, 0, 0, 5, false }, { 12, 0, 1, 7, false },
+        { 10, 0, 150, 7, true },  { 11, 0, 0, 5, false }, { 12, 0, 1, 7, false },   { 14, 0, 100, 5, true },
     };
     static const range_case train_fields[] = {
         { 0, 1, 34, 8, true },     { 1, 20, 300, 9, true },   { 2, 1, 60, 10, true },
@@ -416,6 +416,63 @@ static void test_segment_refusals(void)
     expect_refusal(one(plain_segment, (const int32_t[5]){ 0, 19, 0, -1, -1 }), 8, 3);
     expect_refusal(one(plain_segment, (const int32_t[5]){ 34, 301, 61, 2001, 0 }), 9, 3);
     expect_refusal(one(plain_segment, (const int32_t[5]){ 34, 300, 61, 2001, 0 }), 10, 3);
+}
+
+/* A segment in a retained cut and a train: by day 57.0 and by night 2.7 less, before the screen step. The
+ * steps with no far wall are -14.7 in shadow (window 150, top 260); in the light -2.7 (800, 60), where
+ * distance takes 0.1 more, and 0.017 above zero (312, -202), likewise. */
+static const int32_t cut_segment[FIGURES] = { 6200, 150, 300, 4, 90, 120, 1, 900, 260, 0, 0, 0, 1, 10, 0 };
+static const int32_t cut_train[5] = { 4, 95, 12, 40, 7 };
+
+/* 02's L1: half a decibel off the screen step for each whole metre of the far wall; then zero at most. */
+static void test_far_wall(void)
+{
+    static const struct { int32_t window, top, chart, wall, day; const char *about; } levels[] = {
+        { 150, 260, 0, 0, 570 - 147, "no far wall" },
+        { 150, 260, 0, 14, 570 - 147, "14 dm do nothing" },
+        { 150, 260, 0, 15, 570 - 137, "15 dm are 2 m" },
+        { 150, 260, 0, 24, 570 - 137, "24 dm are 2 m" },
+        { 150, 260, 0, 25, 570 - 132, "25 dm are 3 m" },
+        { 150, 260, 0, 34, 570 - 132, "34 dm are 3 m" },
+        { 150, 260, 0, 35, 570 - 127, "35 dm are 4 m" },
+        { 150, 260, 0, 100, 570 - 97, "10 m" },
+        { 150, 260, 97, 100, 570 - 97 + 97, "10 m and a reading" },
+        { 800, 60, 0, 0, 569 - 27, "in the light" },
+        { 800, 60, 0, 15, 569 - 17, "in the light, 2 m" },
+        { 800, 60, 0, 100, 569, "in the light, 10 m: 0.0, not 2.3" },
+        { 800, 60, 27, 100, 569 + 27, "zero at most before the reading, not after it" },
+        { 312, -202, 0, 0, 569, "in the light, just above zero" },
+        { 312, -202, 0, 20, 569, "just above zero, 2 m" },
+        { 312, -2000, 0, 100, 569, "over 0.4 m off the line of sight, 10 m" },
+    };
+    for (size_t i = 0; i < sizeof levels / sizeof *levels; i++) {
+        int32_t segment[FIGURES];
+        memcpy(segment, cut_segment, sizeof segment);
+        segment[1] = levels[i].window;
+        segment[6] = levels[i].chart == 0 ? 1 : 2;
+        segment[8] = levels[i].top;
+        segment[9] = levels[i].chart;
+        segment[14] = levels[i].wall;
+        outcome o = ask(one(segment, cut_train), 2);
+        expect_period(o.answer.day, levels[i].day, 0, false, levels[i].about);
+        expect_period(o.answer.night, levels[i].day - 27, 0, false, levels[i].about);
+    }
+    /* After 4; before 6, a screen beyond the chart, and before 7, a wrong Table 1 reading. */
+    static const struct { bool screened; int32_t changes[3][2]; uint32_t refusal; } refusals[] = {
+        { true, { { 14, 101 }, { -1, 0 } }, 5 },
+        { true, { { 14, -1 }, { -1, 0 } }, 5 },
+        { true, { { 14, 101 }, { 5, 181 }, { -1, 0 } }, 4 },
+        { true, { { 14, 100 }, { 8, 3000 }, { -1, 0 } }, 6 },
+        { true, { { 14, 101 }, { 8, 3000 }, { -1, 0 } }, 5 },
+        { true, { { 14, -1 }, { 8, 3000 }, { 10, 151 } }, 5 },
+        { true, { { 14, 100 }, { 10, 151 }, { -1, 0 } }, 7 },
+        { true, { { 14, 101 }, { 10, 151 }, { -1, 0 } }, 5 },
+        { false, { { 14, 20 }, { -1, 0 } }, 5 },
+        { false, { { 14, 14 }, { 10, 151 }, { -1, 0 } }, 5 },
+    };
+    for (size_t i = 0; i < sizeof refusals / sizeof *refusals; i++)
+        expect_refusal(one_with(refusals[i].screened ? screened_segment : plain_segment, refusals[i].changes),
+                       refusals[i].refusal, 2);
 }
 
 #define SEGMENT "2500 0 600 0 180 180 0 0 0 0 0 0 0 0 0\n"
@@ -614,7 +671,7 @@ static void test_words(void)
         { 6, "2.5 m" },            { 7, "0 or 1" },         { 12, "1 to 5 digits" },   { 12, "decimal point" },
         { 12, "tab" },             { 12, "second space" },  { 12, "carriage return" }, { 12, "the last too" },
         { 12, "15 numbers" },      { 12, "16384 bytes" },   { 13, "1 to 24 segments" }, { 13, "1 to 96 in all" },
-        { 21, "24" },              { 22, "96" },            { 24, "2 for each" },
+        { 21, "24" },              { 22, "96" },            { 24, "2 for each" },      { 5, "far wall 0 to 100 dm" },
     };
     for (size_t i = 0; i < sizeof rules / sizeof *rules; i++)
         CHECK(strstr(railnoise_refusal_words(rules[i].refusal), rules[i].rule) != NULL, rules[i].rule);
@@ -641,6 +698,7 @@ int main(void)
     test_silence();
     test_ranges();
     test_segment_refusals();
+    test_far_wall();
     test_text_form();
     test_contents();
     test_no_state_refusals();
