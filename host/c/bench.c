@@ -44,7 +44,8 @@ static char texts[STUDIES][RAILNOISE_TEXT_LIMIT];
 static size_t lengths[STUDIES];
 
 /* So many segments, every second one screened, with so many trains each; the last train's speed as given.
- * After so many different segments the first ones come again. */
+ * After so many different segments the first ones come again. The first screened one has a far wall of
+ * 2 m, the others none; in the texts by size it is every sixth segment. */
 static size_t write_study(char *text, int segments, int entries, int last_speed, int different)
 {
     char *at = put_contents(text, segments, entries);
@@ -55,8 +56,8 @@ static size_t write_study(char *text, int segments, int entries, int last_speed,
             at += sprintf(at, "%d %d %d %d %d %d 0 0 0 0 10 -15 1 %d 0\n", d, 330 - 20 * i, 150 + 17 * i, i % 11, view,
                           view + 5, view / 3);
         else
-            at += sprintf(at, "%d %d 235 0 %d %d 2 500 %d 38 10 0 1 %d 0\n", d, 330 - 20 * i, view, view + 5,
-                          100 + 2 * i, view / 3);
+            at += sprintf(at, "%d %d 235 0 %d %d 2 500 %d 38 10 0 1 %d %d\n", d, 330 - 20 * i, view, view + 5,
+                          100 + 2 * i, view / 3, i == 1 ? 20 : 0);
         for (int k = 0; k < entries; k++) {
             int speed = place == segments - 1 && k == entries - 1 ? last_speed : 40 + 2 * i + 40 * k;
             at += sprintf(at, "%d %d %d %d %d\n", 1 + (4 * i + k) % 34, speed, 1 + (7 * i + k) % 60, 3 + 20 * i + 5 * k,
