@@ -7,7 +7,8 @@
 #
 # Levels are worked out from document 01: row 1 is 14.8, 100 km/h 71.2 and 150 km/h 74.7, ten vehicles are 10.0 and 60 are 17.8,
 # 2000 trains 33.0; 48.1 come off by day and 43.3 by night; angles 5, 5 are -38.5, a facade is 2.5; distance and air are 0.0 at 25 m,
-# -10.0 and -1.8 at 250 m, -10.8 and -2.2 at 300 m. The eleventh field is the Table 1 reading, in tenths.
+# -10.0 and -1.8 at 250 m, -10.8 and -2.2 at 300 m. The eleventh field is the Table 1 reading, in tenths, the
+# last the far wall (02, L1).
 set -eu
 here=$(cd "$(dirname "$0")" && pwd)
 program=${1:-$here/../target/bin/railnoise}
@@ -104,6 +105,12 @@ answered '67.4 by day is not met' "1 1\n$near 135 0 1 0 0\n1 150 10 1 0\n" '67.4
 answered '62.5 by night is met' "1 1\n$near 38 0 1 0 0\n1 150 10 0 1\n" 'silent 0 no' '62.5 0 yes'
 answered '62.4 by night is not met' "1 1\n$near 37 0 1 0 0\n1 150 10 0 1\n" 'silent 0 no' '62.4 0 no'
 
+# 10.8 + 70.8 + 10.8 + 16.0 - 48.1 - 3.9 - 0.3 - 1.8 + 2.5 + 0.2 is 57.0 by day before the screen; 7 trains by night are
+# 2.7 less. The screen is -14.7, and 1.0 goes off it behind a far wall of 15 decimetres, 2 m to the nearest metre.
+cut='6200 150 300 4 90 120 1 900 260 0 0 0 1 10'
+answered 'a far wall too low to count' "1 1\n$cut 14\n4 95 12 40 7\n" '42.3 0 no' '39.6 0 no'
+answered 'a far wall' "1 1\n$cut 15\n4 95 12 40 7\n" '43.3 0 no' '40.6 0 no'
+
 # 14.8 + 80.7 + 17.8 + 33.0 - 48.1 - 10.9 - 2.2 + 10.0 + 15.0 + 2.5 + 1.5 is 114.1, and 96 like levels add 19.8. The screen is 0.0,
 # behind a far wall too.
 full 300 >"$text"
@@ -115,6 +122,8 @@ refused 'speed 19' "1 1\n$near 0 0 0 0 0\n1 19 1 1 1\n" 9 3
 grep -qx 'railnoise: refused 9 line 3: speed must be 20 to 300 km/h' "$noticed" || { echo 'WRONG: the words of refusal 9'; wrong=$((wrong + 1)); }
 refused 'two digits of a refusal' "1 1\n$near 0 0 0 0 0\n1 100 61 1 1\n" 10 3
 refused 'distance 999' '1 1\n999 0 600 0 180 180 0 0 0 0 0 0 0 0 0\n1 100 1 1 1\n' 1 2
+refused 'far wall without a screen' "1 1\n$near 0 0 0 0 20\n1 100 1 1 1\n" 5 2
+refused 'a segment without its far wall' "1 1\n$near 0 0 0 0\n1 100 1 1 1\n" 12 2
 refused 'missing line' '1 1\n' 13 2
 refused 'extra line without a line feed' "1 1\n$near 0 0 0 0 0\n1 100 1 1 1\nx" 13 4
 refused 'last line without a line feed' "1 1\n$near 0 0 0 0 0\n1 100 1 1 1" 12 3
