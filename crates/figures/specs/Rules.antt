@@ -118,7 +118,8 @@ unscreenedKept s =
 unfoldable pub screenedKept : Segment → ℤ → Bool
 screenedKept s most =
     (leZ (pos leastGap) (s .setback) && leZ (s .setback +ℤ pos leastGap) (s .distance))
-    && (within (negℤ (pos lowestTop)) (pos highestTop) (s .top) && (within (pos 0) most (s .chart) && (within (pos 0) (pos highestWall) (s .wall) && within (pos 0) (pos 0) (s .ballast))))
+    && (within (negℤ (pos lowestTop)) (pos highestTop) (s .top)
+    && (within (pos 0) most (s .chart) && (within (pos 0) (pos highestWall) (s .wall) && within (pos 0) (pos 0) (s .ballast))))
 
 -- 5: fields 7 to 10 and 15 against their lines, and ballast with a screen. A Chart 6(c) reading needs a reflective screen
 unfoldable pub screenKept : Segment → Bool

@@ -10,7 +10,7 @@ ghost use Rattle.figures.specs.Private.{Square};
 ghost use Rattle.figures.specs.Refusal.{numberOf, checkNumber, unless, firstRefused, isAccepted};
 ghost use Rattle.figures.specs.Rules.{within, unscreened};
 
-// One length of track as document 01 and request L1 number its fields: lengths in centimetres, angles in degrees, readings in tenths.
+// One length of track as document 01 and request L1 number its fields: lengths in centimetres but for the last, angles in degrees, readings in tenths.
 pub struct Segment {
     // d, horizontal distance to the source line
     pub distance: i32,
@@ -40,7 +40,7 @@ pub struct Segment {
     pub facade: i32,
     // θ', angle of opposite reflecting facades
     pub opposite: i32,
-    // reflecting wall on the far side of the track, its height in decimetres
+    // reflecting wall on the far side of the track, its height above the railhead in decimetres
     pub wall: i32,
 }
 

@@ -15,7 +15,7 @@ use Rattle.figures.specs.declared.Segment.{Segment}
 use Rattle.figures.specs.declared.Check.the-variants.{Accepted}
 use Rattle.figures.specs.Geometry.{inShadow}
 use Rattle.figures.specs.Rules.{unscreened}
-use Rattle.propagation.specs.Screen.{pathDifference, screenFormula, wallMetres, reduced, ReducedAtLeast, screenFence}
+use Rattle.propagation.specs.Screen.{pathDifference, screenFormula, wallLoss, reduced, ReducedAtLeast, screenFence}
 use Rattle.propagation.specs.Check.{segmentCheck}
 use Rattle.propagation.specs.Ground.{grounded, pathFence}
 use Rattle.propagation.specs.Fences.{SegmentFences}
@@ -36,21 +36,21 @@ module _ (s : Segment) where
 
   module _ (screened : unscreened s ≡ false) where
     -- a value's fence, with the far wall's loss
-    after-wall : (c f num den : ℕ) → 0 < num → 0 < den → IsFence (ReducedAtLeast (wallMetres s) (AtLeast c f num den)) (reduced 500000 (wallMetres s) (fence c f num den))
-    after-wall c f num den p q = fence-reduced (AtLeast c f num den) (at-least-falls c f num den) (wallMetres s) (fence c f num den) (fence-is c f num den p q)
+    after-wall : (c f num den : ℕ) → 0 < num → 0 < den → IsFence (ReducedAtLeast (wallLoss s) (AtLeast c f num den)) (reduced (wallLoss s) (fence c f num den))
+    after-wall c f num den p q = fence-reduced (AtLeast c f num den) (at-least-falls c f num den) (wallLoss s) (fence c f num den) (fence-is c f num den p q)
 
-    shadow-fence : inShadow s ≡ true → IsFence (ReducedAtLeast (wallMetres s) (AtLeast 0 7750000 10000000 (52000000 + 203 * pathDifference s))) (pathFence s)
+    shadow-fence : inShadow s ≡ true → IsFence (ReducedAtLeast (wallLoss s) (AtLeast 0 7750000 10000000 (52000000 + 203 * pathDifference s))) (pathFence s)
     unfolding pathFence screenFence screenFormula
     shadow-fence e = rw (screened, e) (after-wall 0 7750000 10000000 (52000000 + 203 * pathDifference s) (lit< tt) (omega arith))
 
     module _ (lit : inShadow s ≡ false) where
-      illuminated-fence : pathDifference s ≤ 4000000 → IsFence (ReducedAtLeast (wallMetres s) (AtLeast 880000 2140000 (pathDifference s + 10000) 10000000)) (pathFence s)
+      illuminated-fence : pathDifference s ≤ 4000000 → IsFence (ReducedAtLeast (wallLoss s) (AtLeast 880000 2140000 (pathDifference s + 10000) 10000000)) (pathFence s)
       unfolding pathFence screenFence screenFormula
       illuminated-fence h = rw (screened, lit, le-leb (pathDifference s) 4000000 h) (after-wall 880000 2140000 (pathDifference s + 10000) 10000000 (omega arith) (lit< tt))
 
       beyond : 4000000 < pathDifference s → pathFence s ≡ pos 0
       unfolding pathFence screenFence screenFormula
-      beyond h = rw (screened, lit, lt-leb (pathDifference s) 4000000 h) (none-reduced (wallMetres s))
+      beyond h = rw (screened, lit, lt-leb (pathDifference s) 4000000 h) (none-reduced (wallLoss s))
 
 pub segment-fences : (s : Segment) → segmentCheck s ≡ Accepted → SegmentFences s
 segment-fences s e =

@@ -26,7 +26,7 @@ use Rattle.figures.proofs.Signs.{read, below-back, from-below, signed-below, na
 use Rattle.figures.proofs.Squares.{slant-most}
 use Rattle.figures.proofs.Tenths.{tenths-of}
 use Rattle.figures.proofs.Lies.{lies-within, lies-fence}
-use Rattle.propagation.specs.Screen.{lengthOf, pathDifference, mostShadow, screenFormula, wallMetres, reduced, screenFence}
+use Rattle.propagation.specs.Screen.{lengthOf, pathDifference, mostShadow, screenFormula, wallMetres, wallLoss, reduced, screenFence}
 use Rattle.propagation.specs.Private.{Differs, Length}
 use Rattle.propagation.proofs.DistanceStep.{slant-square-most}
 use Rattle.propagation.proofs.WallLoss.{nearest-reduced, lies-reduced}
@@ -136,10 +136,10 @@ unfolding screenFormula nearest
 screen-clear {m = m} e h = rw (e, lt-leb m 4000000 h) (record { is = refl; small = natural-below (lit< tt) })
 
 -- the step after the loss of n metres, from r tenths by the formulas
-pub screen-is : (s : Segment) {b : Bool} {m n : ℕ} {r : ℤ} → b ≡ inShadow s → m ≡ pathDifference s → n ≡ wallMetres s → Exactly (nearest (screenFormula b m)) r → reduced 5 n r ≡ nearest (screenFence s)
-unfolding screenFence
+pub screen-is : (s : Segment) {b : Bool} {m n : ℕ} {r : ℤ} → b ≡ inShadow s → m ≡ pathDifference s → n ≡ wallMetres s → Exactly (nearest (screenFormula b m)) r → reduced (5 * n) r ≡ nearest (screenFence s)
+unfolding screenFence wallLoss
 screen-is s {n = n} e f i t =
-    ap₂ (reduced 5) i (t .is ∙ ap₂ (λ (x : Bool) (y : ℕ). nearest (screenFormula x y)) e f)
+    ap₂ (λ (x : ℕ) (y : ℤ). reduced (5 * x) y) i (t .is ∙ ap₂ (λ (x : Bool) (y : ℕ). nearest (screenFormula x y)) e f)
     ∙ sym (nearest-reduced (wallMetres s) (screenFormula (inShadow s) (pathDifference s)))
 
 -- ---- how far they lie from zero
@@ -163,6 +163,6 @@ pub screen-lies : (s : Segment) → (inShadow s ≡ true → pathDifference s �
 unfolding screenFence
 screen-lies s f = go (inShadow s) refl
   where
-    go : (b : Bool) → inShadow s ≡ b → Signed 23250000 3020000 (reduced 500000 (wallMetres s) (screenFormula b (pathDifference s)))
-    go true e = lies-reduced (wallMetres s) (shade-lies (pathDifference s) (f e))
-    go false e = lies-reduced (wallMetres s) (lit-lies (pathDifference s))
+    go : (b : Bool) → inShadow s ≡ b → Signed 23250000 3020000 (reduced (wallLoss s) (screenFormula b (pathDifference s)))
+    go true e = lies-reduced (wallLoss s) (shade-lies (pathDifference s) (f e))
+    go false e = lies-reduced (wallLoss s) (lit-lies (pathDifference s))

@@ -4,6 +4,7 @@
 use mathlib.Core.Path.{_≡_, refl, sym, _∙_, ap, ap₂, subst}
 use mathlib.Core.Bool.{Bool, true, false, cond}
 use Prim.Native.Nat.{ℕ, zero, suc, _+_, _*_, _/_, _≤_, _<_}
+use native.Mathlib.Nat.{lt-irrefl}
 use native.Mathlib.Omega.{arith}
 use lib.Dec.{T, leb, lit<, lit≤}
 use lib.IntN.{ℤ, pos, negsuc, negℤ, _+ℤ_, _-ℤ_}
@@ -59,6 +60,15 @@ nearest-cut f =
 
 -- ---- rounding and the loss change places
 
+pub none-lost : {loss : ℕ} (f : ℤ) → loss ≡ 0 → reduced loss f ≡ f
+unfolding reduced
+none-lost f e = rw e refl
+
+pub some-lost : (loss : ℕ) (f : ℤ) → 0 < loss → reduced loss f ≡ atMostZero (f +ℤ pos loss)
+unfolding reduced
+some-lost zero f h = absurd (lt-irrefl 0 h)
+some-lost (suc k) f h = refl
+
 half-tenths : (f : ℤ) (n : ℕ) → f +ℤ pos (500000 * n) ≡ micro (pos (5 * n)) +ℤ f
 half-tenths f n =
     let a = f +ℤ pos (500000 * n) in
@@ -68,12 +78,15 @@ half-tenths f n =
 swapped : (a b : ℤ) → a +ℤ b ≡ b +ℤ a
 swapped a b = from-parts (a +ℤ b) (b +ℤ a) (omega (arith, add-is a b, add-is b a))
 
-pub nearest-reduced : (metres : ℕ) (f : ℤ) → nearest (reduced 500000 metres f) ≡ reduced 5 metres (nearest f)
-unfolding reduced
-nearest-reduced zero f = refl
-nearest-reduced (suc m) f =
-    nearest-cut (f +ℤ pos (500000 * suc m))
-    ∙ ap atMostZero (ap nearest (half-tenths f (suc m)) ∙ nearest-plus (pos (5 * suc m)) f ∙ swapped (pos (5 * suc m)) (nearest f))
+-- n metres, in microdecibels and in tenths
+pub nearest-reduced : (n : ℕ) (f : ℤ) → nearest (reduced (500000 * n) f) ≡ reduced (5 * n) (nearest f)
+nearest-reduced zero f = ap nearest (none-lost f refl) ∙ sym (none-lost (nearest f) refl)
+nearest-reduced (suc k) f =
+    let n = suc k in
+    ap nearest (some-lost (500000 * n) f (omega arith))
+    ∙ nearest-cut (f +ℤ pos (500000 * n))
+    ∙ ap atMostZero (ap nearest (half-tenths f n) ∙ nearest-plus (pos (5 * n)) f ∙ swapped (pos (5 * n)) (nearest f))
+    ∙ sym (some-lost (5 * n) (nearest f) (omega arith))
 
 -- ---- the reduced fence
 
@@ -85,13 +98,13 @@ cut-top : (m z : ℤ) → m ≤ℤ pos 0 → m ≤ℤ z → m ≤ℤ atMostZero 
 cut-top m (pos n) h l = omega (arith, ints, h, cut-is (pos n))
 cut-top m (negsuc n) h l = omega (arith, ints, l, cut-is (negsuc n))
 
--- a value that is at least every number below one that it is at least
+-- of a value that is at least every number below one that it is at least
 module _ (Low : ℤ → Type 0) (falls : (m n : ℤ) → m ≤ℤ n → Low n → Low m) where
-  pub fence-reduced : (metres : ℕ) (f : ℤ) → IsFence Low f → IsFence (ReducedAtLeast metres Low) (reduced 500000 metres f)
+  pub fence-reduced : (loss : ℕ) (f : ℤ) → IsFence Low f → IsFence (ReducedAtLeast loss Low) (reduced loss f)
   unfolding reduced ReducedAtLeast
   fence-reduced zero f h = h
   fence-reduced (suc k) f h =
-      let n = 500000 * suc k in
+      let n = suc k in
       let z = f +ℤ pos n in
       let r = atMostZero z in
       let a = add-is f (pos n) in
@@ -101,33 +114,31 @@ module _ (Low : ℤ → Type 0) (falls : (m n : ℤ) → m ≤ℤ n → Low n �
         top = λ m l. cut-top m z (l .0) (omega (arith, ints, a, b, add-is m (negℤ (pos n)), h .top (m -ℤ pos n) (l .1)));
       }
 
-  reduced-falls : (metres : ℕ) (m n : ℤ) → m ≤ℤ n → ReducedAtLeast metres Low n → ReducedAtLeast metres Low m
+  reduced-falls : (loss : ℕ) (m n : ℤ) → m ≤ℤ n → ReducedAtLeast loss Low n → ReducedAtLeast loss Low m
   unfolding ReducedAtLeast
   reduced-falls zero m n h l = falls m n h l
   reduced-falls (suc k) m n h l =
-      let q = pos (500000 * suc k) in
+      let q = pos (suc k) in
       (omega (arith, ints, h, l .0), falls (m -ℤ q) (n -ℤ q) (omega (arith, ints, h, add-is m (negℤ q), add-is n (negℤ q))) (l .1))
 
   -- the tenth is the nearest of the reduced value
-  pub reduced-tenth-nearest : (metres : ℕ) (f : ℤ) → IsFence Low f → IsNearest (ReducedAtLeast metres Low) (nearest (reduced 500000 metres f))
-  reduced-tenth-nearest metres f h =
-      nearest-exact (ReducedAtLeast metres Low) (reduced-falls metres) (reduced 500000 metres f) (fence-reduced metres f h)
+  pub reduced-tenth-nearest : (loss : ℕ) (f : ℤ) → IsFence Low f → IsNearest (ReducedAtLeast loss Low) (nearest (reduced loss f))
+  reduced-tenth-nearest loss f h = nearest-exact (ReducedAtLeast loss Low) (reduced-falls loss) (reduced loss f) (fence-reduced loss f h)
 
 -- nothing is lost of nothing
-pub none-reduced : (metres : ℕ) → reduced 500000 metres (pos 0) ≡ pos 0
+pub none-reduced : (loss : ℕ) → reduced loss (pos 0) ≡ pos 0
 unfolding reduced atMostZero
 none-reduced zero = refl
-none-reduced (suc m) = refl
+none-reduced (suc k) = refl
 
 -- ---- how far it lies from zero
 
-pub lies-reduced : {l u : ℕ} (metres : ℕ) {f : ℤ} → Signed l u f → Signed l u (reduced 500000 metres f)
+pub lies-reduced : {l u : ℕ} (loss : ℕ) {f : ℤ} → Signed l u f → Signed l u (reduced loss f)
 unfolding reduced
 lies-reduced zero a = a
-lies-reduced (suc m) {f} a =
-    let n = 500000 * suc m in
-    let z = f +ℤ pos n in
-    record { most = omega (arith, cut-is z); least = omega (arith, cut-is z, add-most f (pos n), a .least) }
+lies-reduced (suc k) {f} a =
+    let z = f +ℤ pos (suc k) in
+    record { most = omega (arith, cut-is z); least = omega (arith, cut-is z, add-most f (pos (suc k)), a .least) }
 
 -- ---- as the code takes it
 
@@ -157,17 +168,11 @@ metres-most {s} g = go (leb 15 (up (s .wall)))
 
 -- the step, r tenths before the loss of n metres
 module _ (n : ℕ) (r : ℤ) (below : Below 2000 r) where
-  pub lossless : n < 1 → Exactly (reduced 5 n r) (read r)
-  unfolding reduced
-  lossless h = let z : n ≡ 0 = omega arith in returned (lit≤ tt) (sym (rw z refl)) below
+  pub lossless : n < 1 → Exactly (reduced (5 * n) r) (read r)
+  lossless h = returned (lit≤ tt) (sym (none-lost r (omega arith))) below
 
-  with-loss : 1 ≤ n → reduced 5 n r ≡ atMostZero (r +ℤ pos (5 * n))
-  unfolding reduced
-  with-loss h = go n h
-    where
-      go : (n : ℕ) → 1 ≤ n → reduced 5 n r ≡ atMostZero (r +ℤ pos (5 * n))
-      go zero h = absurd (omega arith)
-      go (suc k) h = refl
+  with-loss : 1 ≤ n → reduced (5 * n) r ≡ atMostZero (r +ℤ pos (5 * n))
+  with-loss h = some-lost (5 * n) r (omega arith)
 
   module _ (most : n ≤ 10) where
     loss-back : read r +ℤ toZ w32 (5 * n) ≡ r +ℤ pos (5 * n)
@@ -188,10 +193,10 @@ module _ (n : ℕ) (r : ℤ) (below : Below 2000 r) where
         let z = r +ℤ pos (5 * n) in
         record { most = omega (arith, cut-is z); least = omega (arith, cut-is z, add-most r (pos (5 * n)), below .least) }
 
-    pub loss-kept : 1 ≤ n → ltZ (read (read r +ℤ toZ w32 (5 * n))) (pos 0) ≡ true → Exactly (reduced 5 n r) (read (read r +ℤ toZ w32 (5 * n)))
+    pub loss-kept : 1 ≤ n → ltZ (read (read r +ℤ toZ w32 (5 * n))) (pos 0) ≡ true → Exactly (reduced (5 * n) r) (read (read r +ℤ toZ w32 (5 * n)))
     loss-kept h e =
         let i = sym (with-loss h ∙ cut-kept (r +ℤ pos (5 * n)) (subst (λ (z : ℤ). ltZ z (pos 0) ≡ true) loss-read e)) in
         record { is = loss-read ∙ i; small = subst (Below 2000) (sym (loss-read ∙ i ∙ with-loss h)) cut-small }
 
-    pub loss-cut : 1 ≤ n → ltZ (read (read r +ℤ toZ w32 (5 * n))) (pos 0) ≡ false → Exactly (reduced 5 n r) (pos 0)
+    pub loss-cut : 1 ≤ n → ltZ (read (read r +ℤ toZ w32 (5 * n))) (pos 0) ≡ false → Exactly (reduced (5 * n) r) (pos 0)
     loss-cut h e = record { is = sym (with-loss h ∙ cut-none (r +ℤ pos (5 * n)) (subst (λ (z : ℤ). ltZ z (pos 0) ≡ false) loss-read e)); small = natural-below (lit< tt) }

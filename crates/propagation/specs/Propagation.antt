@@ -63,7 +63,7 @@ propagationOf s = record { tenths = addedUp (segmentBreakdownOf s); close = segm
 abbrev pub noPropagation : Propagation
 noPropagation = record { tenths = pos 0; close = false }
 
--- with no step rounded
+-- with no step rounded; the screen's is after the far wall's loss (L1)
 unfoldable pub segmentFence : Segment → ℤ
 segmentFence s =
     distanceFence s

@@ -37,25 +37,29 @@ screenFormula false m = cond (leb m 4000000) (fence 880000 2140000 (m + 10000) 1
 
 -- ---- a wall on the far side
 
--- its height in metres, the nearest, halves up; below 15 decimetres it does nothing
+-- its height to the nearest metre, halves up; below 15 decimetres it does nothing. The rounding is part of the formula, and so of the bare level
 unfoldable pub wallMetres : Segment → ℕ
 wallMetres s = cond (leb 15 (up (s .wall))) ((up (s .wall) + 5) / 10) 0
+
+-- what it takes off the screen correction, in microdecibels: 0.5 dB a metre
+unfoldable pub wallLoss : Segment → ℕ
+wallLoss s = 500000 * wallMetres s
 
 -- zero if it would be above zero
 unfoldable pub atMostZero : ℤ → ℤ
 atMostZero (pos n) = pos 0
 atMostZero (negsuc n) = negsuc n
 
--- half a decibel a metre is lost of a step (`half` is that in the step's unit); where there is a loss, the reduced step is at most zero
-unfoldable pub reduced : (half metres : ℕ) → ℤ → ℤ
-reduced half zero step = step
-reduced half (suc m) step = atMostZero (step +ℤ pos (half * suc m))
+-- a correction after a loss, both in one unit: where there is a loss, it is at most zero
+unfoldable pub reduced : (loss : ℕ) → ℤ → ℤ
+reduced zero correction = correction
+reduced (suc k) correction = atMostZero (correction +ℤ pos (suc k))
 
--- an exact value, known by the whole numbers Low that it is at least, is at least m after the loss
-unfoldable pub ReducedAtLeast : (metres : ℕ) → (ℤ → Type 0) → ℤ → Type 0
+-- the same of an exact value, known by the whole numbers Low that it is at least: it is at least m
+unfoldable pub ReducedAtLeast : (loss : ℕ) → (Low : ℤ → Type 0) → ℤ → Type 0
 ReducedAtLeast zero Low m = Low m
-ReducedAtLeast (suc k) Low m = (m ≤ℤ pos 0) × Low (m -ℤ pos (500000 * suc k))
+ReducedAtLeast (suc k) Low m = (m ≤ℤ pos 0) × Low (m -ℤ pos (suc k))
 
--- the formula's, reduced; the Chart 6(c) reading is added to the level beside it
+-- before the Chart 6(c) reading, which the level adds beside it
 unfoldable pub screenFence : Segment → ℤ
-screenFence s = reduced 500000 (wallMetres s) (screenFormula (inShadow s) (pathDifference s))
+screenFence s = reduced (wallLoss s) (screenFormula (inShadow s) (pathDifference s))

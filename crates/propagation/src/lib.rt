@@ -28,7 +28,7 @@ pub struct SegmentBreakdown {
     pub air: i32,
     pub angle: i32,
     pub opposite: i32,
-    // ground, or the screen instead of it
+    // ground, or the screen instead of it after what a far wall takes off
     pub path: i32,
     pub close: bool,
     pub facade: i32,

@@ -2,7 +2,7 @@
 -- Assumes nothing.
 use borrow.Author.Needs.{needs}
 use mathlib.Core.Path.{_≡_, sym, _∙_, subst}
-use Prim.Native.Nat.{ℕ, _≤_}
+use Prim.Native.Nat.{ℕ, _*_, _≤_}
 use native.Mathlib.Omega.{arith}
 use Rattle.decibel.specs.Round.{nearest}
 use Rattle.figures.proofs.Signs.{exactly-by}
@@ -25,7 +25,7 @@ screen-by-requires c κs =
 metres-at : (c : tie.After-wall-metres) → c .wall-metres .result ≤ 10
 metres-at c = subst (λ (n : ℕ). n ≤ 10) (sym (c .wall-metres .ensures)) (metres-most (start-of c .pre .0 .ranged))
 
-step-at : (c : tie.After-wall-metres) → reduced 5 (c .wall-metres .result) (c .before .screen-by .result) ≡ nearest (screenFence (start-of c .args .s))
+step-at : (c : tie.After-wall-metres) → reduced (5 * c .wall-metres .result) (c .before .screen-by .result) ≡ nearest (screenFence (start-of c .args .s))
 step-at c =
     let p = start-of c .pre in
     screen-is (start-of c .args .s) (c .before .before .in-shadow .ensures) (p .1 .0 .is (p .1 .1)) (c .wall-metres .ensures) (c .before .screen-by .ensures)
