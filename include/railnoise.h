@@ -17,7 +17,8 @@
  *
  * The first line is the contents: the number of segments, 1 to 24, then for each segment the number of
  * its train entries, 0 to 96 each and 1 to 96 in all. Each segment's line of 15 numbers follows, and
- * after it the lines of its train entries, 5 numbers each. There is no other line.
+ * after it the lines of its train entries, 5 numbers each. There is no other line. A text from before
+ * version 0.2, whose segments have 14 numbers, is refused with 12; a last 0 on each of these lines mends it.
  *
  * A segment, in this order:
  *    1  d, horizontal distance to the source line    centimetres  1000 to 30000
@@ -36,8 +37,10 @@
  *   12  reading of paragraph 22, ballast             0.1 dB       -30 to 0; 0 with a screen
  *   13  facade correction                                         0 or 1; 1 adds 2.5 dB
  *   14  angle of opposite reflecting facades         degrees      0 to the angle of view
- *   15  far wall's height above the railhead         decimetres   0 to 100; 0 without a screen, and where it
- *                                                                 absorbs or leans more than 15 degrees
+ *   15  far wall's height above the railhead         decimetres   0 to 100; 0 without a screen, and where the
+ *                                                                 far wall absorbs or leans more than 15
+ *                                                                 degrees. From 15 on it takes 0.5 dB off
+ *                                                                 the screen for each metre, to the nearest
  *
  * A train entry, in this order:
  *    1  vehicle row of Table A1.1, see below                      1 to 34
@@ -154,8 +157,9 @@ enum {
     RAILNOISE_ANGLE = 4,           /* the angle of view is not 5 to 180 degrees, or a not from it to 180 */
     RAILNOISE_SCREEN = 5,          /* screen not 0, 1 or 2; D not 100 to d - 100 cm; top not -2000 to
                                       5000 cm; Chart 6(c) reading not 0 to 100 tenths, or not 0 unless
-                                      reflective; far wall not 0 to 100 dm; any of D, top, reading and
-                                      far wall not 0 without a screen; ballast not 0 with one */
+                                      reflective; far wall's height not 0 to 100 dm; any of D, top,
+                                      reading and far wall not 0 without a screen; ballast not 0 with
+                                      one */
     RAILNOISE_PATH_DIFFERENCE = 6, /* in shadow, the path over the screen is more than 2.5 m longer */
     RAILNOISE_READING = 7,         /* Table 1 reading not 0 to 150 tenths, ballast not -30 to 0 tenths,
                                       facade not 0 or 1, or the opposite angle not 0 to the angle of view */
@@ -205,8 +209,8 @@ static inline const char *railnoise_refusal_words(uint32_t refusal)
     case RAILNOISE_SCREEN:
         return "screen must be 0, 1 or 2; source to screen 100 cm to 100 cm less than the distance; "
                "screen top -2000 to 5000 cm; Chart 6(c) reading 0 to 100 tenths, and 0 unless the "
-               "screen is reflective (2); far wall 0 to 100 dm; all four must be 0 without a screen, "
-               "and ballast 0 with one";
+               "screen is reflective (2); far wall's height 0 to 100 dm; the last four must be 0 without "
+               "a screen, and ballast 0 with one";
     case RAILNOISE_PATH_DIFFERENCE:
         return "window is in the screen's shadow and the path over the screen is more than 2.5 m "
                "longer than the straight one, beyond the chart";

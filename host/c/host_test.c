@@ -671,7 +671,7 @@ static void test_words(void)
         { 6, "2.5 m" },            { 7, "0 or 1" },         { 12, "1 to 5 digits" },   { 12, "decimal point" },
         { 12, "tab" },             { 12, "second space" },  { 12, "carriage return" }, { 12, "the last too" },
         { 12, "15 numbers" },      { 12, "16384 bytes" },   { 13, "1 to 24 segments" }, { 13, "1 to 96 in all" },
-        { 21, "24" },              { 22, "96" },            { 24, "2 for each" },      { 5, "far wall 0 to 100 dm" },
+        { 21, "24" },              { 22, "96" },            { 24, "2 for each" },      { 5, "height 0 to 100 dm" },
     };
     for (size_t i = 0; i < sizeof rules / sizeof *rules; i++)
         CHECK(strstr(railnoise_refusal_words(rules[i].refusal), rules[i].rule) != NULL, rules[i].rule);

@@ -40,7 +40,7 @@ fn put_words(out: &mut [u8], at: usize, refusal: Refusal) -> usize
         Refusal::Screen => writing::put(
             out,
             at,
-            b"screen must be 0, 1 or 2; source to screen 100 cm to 100 cm less than the distance; screen top -2000 to 5000 cm; Chart 6(c) reading 0 to 100 tenths, and 0 unless the screen is reflective (2); far wall 0 to 100 dm; all four must be 0 without a screen, and ballast 0 with one",
+            b"screen must be 0, 1 or 2; source to screen 100 cm to 100 cm less than the distance; screen top -2000 to 5000 cm; Chart 6(c) reading 0 to 100 tenths, and 0 unless the screen is reflective (2); far wall's height 0 to 100 dm; the last four must be 0 without a screen, and ballast 0 with one",
         ),
         Refusal::Shadow => writing::put(
             out,
