@@ -1,11 +1,12 @@
 #!/bin/sh
-# Tries the built program on texts: what it writes is compared byte for byte with what document 01 says, and it must end with status 0.
+# Tries the built program on texts: what it writes is compared byte for byte with what documents 01 and 02 say, and it must end with
+# status 0.
 # Beside a refusal one line on standard error says the same in words; else nothing stands there.
 # Then the command around it, railnoise.sh, is tried by host/command.sh.
 #   host/program.sh [PROGRAM]
 # PROGRAM: by default target/bin/railnoise, as rt check railnoise builds it.
 #
-# Levels are worked out from document 01: row 1 is 14.8, 100 km/h 71.2 and 150 km/h 74.7, ten vehicles are 10.0 and 60 are 17.8,
+# Levels are worked out from these documents: row 1 is 14.8, 100 km/h 71.2 and 150 km/h 74.7, ten vehicles are 10.0 and 60 are 17.8,
 # 2000 trains 33.0; 48.1 come off by day and 43.3 by night; angles 5, 5 are -38.5, a facade is 2.5; distance and air are 0.0 at 25 m,
 # -10.0 and -1.8 at 250 m, -10.8 and -2.2 at 300 m. The eleventh field is the Table 1 reading, in tenths, the
 # last the far wall (02, L1).

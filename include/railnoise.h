@@ -40,7 +40,8 @@
  *   15  far wall's height above the railhead         decimetres   0 to 100; 0 without a screen, and where the
  *                                                                 far wall absorbs or leans more than 15
  *                                                                 degrees. From 15 on it takes 0.5 dB off
- *                                                                 the screen for each metre, to the nearest
+ *                                                                 the screen for each metre, the height to
+ *                                                                 the nearest metre, halves up
  *
  * A train entry, in this order:
  *    1  vehicle row of Table A1.1, see below                      1 to 34
