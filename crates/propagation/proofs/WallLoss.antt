@@ -7,7 +7,7 @@ use Prim.Native.Nat.{ℕ, zero, suc, _+_, _*_, _/_, _≤_, _<_}
 use native.Mathlib.Nat.{lt-irrefl}
 use native.Mathlib.Omega.{arith}
 use lib.Dec.{T, leb, lit<, lit≤}
-use lib.IntN.{ℤ, pos, negsuc, negℤ, _+ℤ_, _-ℤ_}
+use lib.IntN.{ℤ, pos, negsuc, negℤ, _+ℤ_, _-ℤ_, +ℤ-comm}
 use lib.Signed.{_≤ℤ_, _<ℤ_, ltZ}
 use mir.Syntax.{w32}
 use mir.Val.{SFits, toZ}
@@ -75,9 +75,6 @@ half-tenths f n =
     let b = micro (pos (5 * n)) +ℤ f in
     from-parts a b (omega (arith, add-is f (pos (500000 * n)), add-is (micro (pos (5 * n))) f, micro-is (pos (5 * n))))
 
-swapped : (a b : ℤ) → a +ℤ b ≡ b +ℤ a
-swapped a b = from-parts (a +ℤ b) (b +ℤ a) (omega (arith, add-is a b, add-is b a))
-
 -- n metres, in microdecibels and in tenths
 pub nearest-reduced : (n : ℕ) (f : ℤ) → nearest (reduced (500000 * n) f) ≡ reduced (5 * n) (nearest f)
 nearest-reduced zero f = ap nearest (none-lost f refl) ∙ sym (none-lost (nearest f) refl)
@@ -85,7 +82,7 @@ nearest-reduced (suc k) f =
     let n = suc k in
     ap nearest (some-lost (500000 * n) f (omega arith))
     ∙ nearest-cut (f +ℤ pos (500000 * n))
-    ∙ ap atMostZero (ap nearest (half-tenths f n) ∙ nearest-plus (pos (5 * n)) f ∙ swapped (pos (5 * n)) (nearest f))
+    ∙ ap atMostZero (ap nearest (half-tenths f n) ∙ nearest-plus (pos (5 * n)) f ∙ +ℤ-comm (pos (5 * n)) (nearest f))
     ∙ sym (some-lost (5 * n) (nearest f) (omega arith))
 
 -- ---- the reduced fence
