@@ -1,7 +1,7 @@
 -- The loss by a wall on the far side: it commutes with rounding, the reduced fence is that of the reduced value, how far it lies from zero, and the
 -- metres and the step as the code takes them.
 -- Assumes nothing.
-use mathlib.Core.Path.{_≡_, refl, sym, _∙_, ap, ap₂, subst}
+use mathlib.Core.Path.{_≡_, refl, sym, _∙_, ap, subst}
 use mathlib.Core.Bool.{Bool, true, false, cond}
 use Prim.Native.Nat.{ℕ, zero, suc, _+_, _*_, _/_, _≤_, _<_}
 use native.Mathlib.Nat.{lt-irrefl}
@@ -14,13 +14,13 @@ use mir.Val.{SFits, toZ}
 use borrow.Author.Tests.{le-leb, lt-leb, ltb-true}
 use Rattle.decibel.specs.Ints.{up, dn}
 use Rattle.decibel.specs.Round.{micro, tie, nearest, IsFence, IsNearest}
-use Rattle.decibel.proofs.Ints.{add-is, add-most, neg-is, mag-most, from-parts, ints}
+use Rattle.decibel.proofs.Ints.{add-is, add-most, neg-is, from-parts, ints}
 use Rattle.decibel.proofs.Round.{micro-is, tie-is, nearest-between, nearest-is, nearest-plus, nearest-exact}
 use Rattle.figures.specs.declared.Segment.{Segment}
 use Rattle.figures.specs.Rules.{highestWall}
 use Rattle.figures.specs.Bounds.{Below}
 use Rattle.figures.specs.Private.{Signed, Exactly, Ranged}
-use Rattle.figures.proofs.Signs.{read, below-back, below-more, natural-below, cast-read, read-up, returned}
+use Rattle.figures.proofs.Signs.{read, below-back, natural-below, signed-below, cast-read, read-up, returned, Sum, summand, summed}
 use Rattle.propagation.specs.Screen.{wallMetres, atMostZero, reduced, ReducedAtLeast}
 
 -- ---- the cut at zero
@@ -168,32 +168,32 @@ module _ (n : ℕ) (r : ℤ) (below : Below 2000 r) where
   pub lossless : n < 1 → Exactly (reduced (5 * n) r) (read r)
   lossless h = returned (lit≤ tt) (sym (none-lost r (omega arith))) below
 
+  reduced-small : Below 2000 (reduced (5 * n) r)
+  reduced-small =
+      let s : Signed 1999 1999 r = record { most = omega (arith, below .most); least = omega (arith, below .least) } in
+      signed-below (lit< tt) (lit< tt) (lies-reduced (5 * n) s)
+
   with-loss : 1 ≤ n → reduced (5 * n) r ≡ atMostZero (r +ℤ pos (5 * n))
   with-loss h = some-lost (5 * n) r (omega arith)
 
   module _ (most : n ≤ 10) where
-    loss-back : read r +ℤ toZ w32 (5 * n) ≡ r +ℤ pos (5 * n)
-    loss-back = ap₂ _+ℤ_ (below-back (below-more (lit≤ tt) below)) (cast-read (5 * n) (omega arith))
+    -- the loss, as it is cast
+    loss-cast : toZ w32 (5 * n) ≡ read (pos (5 * n))
+    loss-cast = cast-read (5 * n) (omega arith) ∙ sym (below-back (natural-below (omega arith)))
 
-    loss-below : Below 3000 (r +ℤ pos (5 * n))
-    loss-below = record { most = omega (arith, add-most r (pos (5 * n)), below .most); least = omega (arith, add-most r (pos (5 * n)), below .least) }
+    loss-small : Below 51 (pos (5 * n))
+    loss-small = natural-below (omega arith)
 
     pub loss-fits : SFits w32 (read r +ℤ toZ w32 (5 * n))
-    loss-fits = rw loss-back (record { sfits = omega (arith, mag-most (r +ℤ pos (5 * n)), loss-below .most, loss-below .least) })
+    loss-fits = rw loss-cast (summand below loss-small (lit≤ tt))
 
-    -- as it is read again
-    loss-read : read (read r +ℤ toZ w32 (5 * n)) ≡ r +ℤ pos (5 * n)
-    loss-read = ap read loss-back ∙ below-back (below-more (lit≤ tt) loss-below)
-
-    cut-small : Below 2000 (atMostZero (r +ℤ pos (5 * n)))
-    cut-small =
-        let z = r +ℤ pos (5 * n) in
-        record { most = omega (arith, cut-is z); least = omega (arith, cut-is z, add-most r (pos (5 * n)), below .least) }
+    lost : Sum 2051 r (pos (5 * n)) (read (read r +ℤ toZ w32 (5 * n)))
+    lost = rw loss-cast (summed below loss-small (lit≤ tt))
 
     pub loss-kept : 1 ≤ n → ltZ (read (read r +ℤ toZ w32 (5 * n))) (pos 0) ≡ true → Exactly (reduced (5 * n) r) (read (read r +ℤ toZ w32 (5 * n)))
     loss-kept h e =
-        let i = sym (with-loss h ∙ cut-kept (r +ℤ pos (5 * n)) (subst (λ (z : ℤ). ltZ z (pos 0) ≡ true) loss-read e)) in
-        record { is = loss-read ∙ i; small = subst (Below 2000) (sym (loss-read ∙ i ∙ with-loss h)) cut-small }
+        let i = lost .is ∙ sym (with-loss h ∙ cut-kept (r +ℤ pos (5 * n)) (subst (λ (z : ℤ). ltZ z (pos 0) ≡ true) (lost .is) e)) in
+        record { is = i; small = subst (Below 2000) (sym i) reduced-small }
 
     pub loss-cut : 1 ≤ n → ltZ (read (read r +ℤ toZ w32 (5 * n))) (pos 0) ≡ false → Exactly (reduced (5 * n) r) (pos 0)
-    loss-cut h e = record { is = sym (with-loss h ∙ cut-none (r +ℤ pos (5 * n)) (subst (λ (z : ℤ). ltZ z (pos 0) ≡ false) loss-read e)); small = natural-below (lit< tt) }
+    loss-cut h e = record { is = sym (with-loss h ∙ cut-none (r +ℤ pos (5 * n)) (subst (λ (z : ℤ). ltZ z (pos 0) ≡ false) (lost .is) e)); small = natural-below (lit< tt) }
