@@ -1,11 +1,16 @@
 #!/bin/sh
 # Speed, instructions and stack of the product beside the plain C program, with strtol (plain) and
 # with a digit loop of its own (digits).
-#   host/bench.sh [ARCHIVE] [TEXTS]
-# ARCHIVE: the static library to test, by default the product's; TEXTS: how many the plain program is
+#   host/bench.sh [--counts] [ARCHIVE] [TEXTS]
+# --counts: what is the same from run to run alone, no times; ARCHIVE: the static library to test, by default the product's; TEXTS: how many the plain program is
 # tried on for misreadings, by default 20000.
 set -eu
 here=$(cd "$(dirname "$0")" && pwd)
+times=yes
+if [ "${1-}" = --counts ]; then
+    times=no
+    shift
+fi
 archive=${1:-$here/../target/staticlib/librailnoise_c.a}
 texts=${2:-20000}
 [ -r "$archive" ] || { echo "$archive is missing: run rt staticlib railnoise_c" >&2; exit 2; }
@@ -18,9 +23,11 @@ $compile -I"$here/../include" -DDIGIT_LOOP -c "$here/c/plain.c" -o "$build/digit
 $compile -I"$here/../include" "$here/c/bench.c" "$here/c/plain.c" "$build/digits.o" "$archive" \
     ${LINK_FLAGS:-} -lm -lpthread -Wl,-z,now -o "$build/bench"
 
-echo "# Time of one call in nanoseconds, all in one run; the product's ratio to each"
-"$build/bench" time
-echo
+if [ "$times" = yes ]; then
+    echo "# Time of one call in nanoseconds, all in one run; the product's ratio to each"
+    "$build/bench" time
+    echo
+fi
 echo "# Instructions of one call: 11 calls less 1, over 10; the product's ratio to each"
 
 # collected WHO STUDY COUNT: what callgrind collects over the whole program
