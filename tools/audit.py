@@ -2,7 +2,7 @@
 """Rules of the repository that no proof states: prints each place that breaks one, and then exits with 1.
 
 - a public function has no `requires`; a library's has an `ensures`, and a row in docs/TRACE.md with its contract and two wrong programs;
-  that page names every must-fail edit, and none that is not there
+  that page names every must-fail edit, and none that is not there, and lists those that change a definition
 - a must-fail edit says what would go wrong, and each of its old texts stands once in its file and is changed
 - a function of the product has fewer than 40 lines, its contract not counted
 - an antt file has at most 300 lines
@@ -99,7 +99,7 @@ def trace_faults():
     """Public functions and must-fail edits that docs/TRACE.md leaves out or makes up."""
     page = pathlib.Path("docs/TRACE.md").read_text()
     crates = {path.name for path in pathlib.Path("crates").iterdir()}
-    edits = {f"{path.parts[1]}/{path.stem}" for path in pathlib.Path("crates").glob("*/must-fail/*.edit")}
+    edits = {f"{path.parts[1]}/{path.stem}": path.read_text() for path in pathlib.Path("crates").glob("*/must-fail/*.edit")}
     named = {f"{crate}/{edit}" for crate, edit in re.findall(r"\b(\w+)/(\w+)\b(?![/.])", page) if crate in crates}
     rows = set()
     for match in TRACED.finditer(page.partition("## Public functions")[2]):
@@ -111,8 +111,12 @@ def trace_faults():
         if not pathlib.Path("crates", crate, "src", "main.rt").exists():
             public = {(crate, match["name"]) for match in FUNCTION.finditer(path.read_text()) if match["public"]}
             yield from (f"{path}: public function {name} has no row in docs/TRACE.md" for _, name in sorted(public - rows))
-    yield from (f"docs/TRACE.md: there is no edit {edit}" for edit in sorted(named - edits))
-    yield from (f"docs/TRACE.md: edit {edit} is not named" for edit in sorted(edits - named))
+    yield from (f"docs/TRACE.md: there is no edit {edit}" for edit in sorted(named - edits.keys()))
+    yield from (f"docs/TRACE.md: edit {edit} is not named" for edit in sorted(edits.keys() - named))
+    listed = re.search(r"^These edits change a definition and not the program: ([^.]*)\.", page, re.M)
+    said = set(re.findall(r"\w+/\w+", listed[1])) if listed else set()
+    changed = {edit for edit, text in edits.items() if "\nfile: specs/" in text}
+    yield from (f"docs/TRACE.md: edit {edit} is to be listed exactly if it changes a definition" for edit in sorted(said ^ changed))
 
 
 def edit_faults():
