@@ -18,7 +18,7 @@
  * The first line is the contents: the number of segments, 1 to 24, then for each segment the number of
  * its train entries, 0 to 96 each and 1 to 96 in all. Each segment's line of 15 numbers follows, and
  * after it the lines of its train entries, 5 numbers each. There is no other line. A text from before
- * version 0.2, whose segments have 14 numbers, is refused with 12; a last 0 on each of these lines mends it.
+ * version 0.2, whose segments have 14 numbers, is refused with 12; a last 0 on each segment's line mends it.
  *
  * A segment, in this order:
  *    1  d, horizontal distance to the source line    centimetres  1000 to 30000
@@ -37,11 +37,13 @@
  *   12  reading of paragraph 22, ballast             0.1 dB       -30 to 0; 0 with a screen
  *   13  facade correction                                         0 or 1; 1 adds 2.5 dB
  *   14  angle of opposite reflecting facades         degrees      0 to the angle of view
- *   15  far wall's height above the railhead         decimetres   0 to 100; 0 without a screen, and where the
- *                                                                 far wall absorbs or leans more than 15
- *                                                                 degrees. From 15 on it takes 0.5 dB off
- *                                                                 the screen for each metre, the height to
- *                                                                 the nearest metre, halves up
+ *   15  far wall's height above the railhead         decimetres   0 to 100; 0 without a screen
+ *
+ * The far wall is a reflecting wall beyond the track, the other side of a retained cut or a second barrier
+ * (paragraphs 28 and 29). Enter 0 where there is none, where it absorbs, and where it leans more than 15
+ * degrees. From 15 decimetres on the screen's correction is 0.5 dB weaker, and so the level louder, for each
+ * metre of it, the height to the nearest metre, halves up; a correction that would then be above 0 is 0,
+ * and number 10 is added after that.
  *
  * A train entry, in this order:
  *    1  vehicle row of Table A1.1, see below                      1 to 34

@@ -55,11 +55,11 @@ unfoldable pub reduced : (loss : ℕ) → ℤ → ℤ
 reduced zero correction = correction
 reduced (suc k) correction = atMostZero (correction +ℤ pos (suc k))
 
--- the same of an exact value, known by the whole numbers Low that it is at least: it is at least m
+-- the same of an exact value, known by the whole numbers Low that it is at least: after the loss it is at least m
 unfoldable pub ReducedAtLeast : (loss : ℕ) → (Low : ℤ → Type 0) → ℤ → Type 0
 ReducedAtLeast zero Low m = Low m
 ReducedAtLeast (suc k) Low m = (m ≤ℤ pos 0) × Low (m -ℤ pos (suc k))
 
--- before the Chart 6(c) reading, which the level adds beside it
+-- the screen step, before the Chart 6(c) reading, which the level adds beside it
 unfoldable pub screenFence : Segment → ℤ
 screenFence s = reduced (wallLoss s) (screenFormula (inShadow s) (pathDifference s))
