@@ -458,21 +458,20 @@ static void test_far_wall(void)
         expect_period(o.answer.night, levels[i].day - 27, 0, false, levels[i].about);
     }
     /* After 4; before 6, a screen beyond the chart, and before 7, a wrong Table 1 reading. */
-    static const struct { bool screened; int32_t changes[3][2]; uint32_t refusal; } refusals[] = {
-        { true, { { 14, 101 }, { -1, 0 } }, 5 },
-        { true, { { 14, -1 }, { -1, 0 } }, 5 },
-        { true, { { 14, 101 }, { 5, 181 }, { -1, 0 } }, 4 },
-        { true, { { 14, 100 }, { 8, 3000 }, { -1, 0 } }, 6 },
-        { true, { { 14, 101 }, { 8, 3000 }, { -1, 0 } }, 5 },
-        { true, { { 14, -1 }, { 8, 3000 }, { 10, 151 } }, 5 },
-        { true, { { 14, 100 }, { 10, 151 }, { -1, 0 } }, 7 },
-        { true, { { 14, 101 }, { 10, 151 }, { -1, 0 } }, 5 },
-        { false, { { 14, 20 }, { -1, 0 } }, 5 },
-        { false, { { 14, 14 }, { 10, 151 }, { -1, 0 } }, 5 },
+    static const struct { const int32_t *base; int32_t changes[3][2]; uint32_t refusal; } refusals[] = {
+        { cut_segment, { { 14, 101 }, { -1, 0 } }, 5 },
+        { cut_segment, { { 14, -1 }, { -1, 0 } }, 5 },
+        { screened_segment, { { 14, 101 }, { 5, 181 }, { -1, 0 } }, 4 },
+        { screened_segment, { { 14, 100 }, { 8, 3000 }, { -1, 0 } }, 6 },
+        { screened_segment, { { 14, 101 }, { 8, 3000 }, { -1, 0 } }, 5 },
+        { screened_segment, { { 14, -1 }, { 8, 3000 }, { 10, 151 } }, 5 },
+        { screened_segment, { { 14, 100 }, { 10, 151 }, { -1, 0 } }, 7 },
+        { screened_segment, { { 14, 101 }, { 10, 151 }, { -1, 0 } }, 5 },
+        { plain_segment, { { 14, 20 }, { -1, 0 } }, 5 },
+        { plain_segment, { { 14, 14 }, { 10, 151 }, { -1, 0 } }, 5 },
     };
     for (size_t i = 0; i < sizeof refusals / sizeof *refusals; i++)
-        expect_refusal(one_with(refusals[i].screened ? screened_segment : plain_segment, refusals[i].changes),
-                       refusals[i].refusal, 2);
+        expect_refusal(one_with(refusals[i].base, refusals[i].changes), refusals[i].refusal, 2);
 }
 
 #define SEGMENT "2500 0 600 0 180 180 0 0 0 0 0 0 0 0 0\n"
