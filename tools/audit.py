@@ -21,7 +21,7 @@ import citations
 
 # Functions that may be longer, with the reason.
 LONG = {
-    "lines segment_of": "document 01 asks for a `let .. else` for each of the 15 fields",
+    "lines segment_of": "documents 01 and 02 ask for a `let .. else` for each of the 15 fields",
     "text answer_lines": "document 01 asks for a labelled nest of the lines, and each of its ways ends the reading",
     "words put_words": "an arm for each refusal, whose words are one long line",
 }

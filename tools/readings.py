@@ -1,5 +1,5 @@
 #!/usr/bin/env python3
-"""Hold what the program `readings` writes against figures typed from the memorandum and document 01.
+"""Hold what the program `readings` writes against figures typed from the memorandum and documents 01 and 02.
 
 crates/readings/stdin has study texts, each under its title; crates/readings/stdout has what the program writes for them, which the
 check of the crate compares with a run. readings.json has the typed figures, by title and part. None of them comes from a run.
