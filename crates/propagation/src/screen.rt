@@ -102,7 +102,7 @@ fn wall_metres(s: Segment) -> u64
     (height + 5) / 10
 }
 
-// The screen, in shadow or illuminated, with the far wall's loss of 5 tenths a metre. Only a loss is cut at zero.
+// The screen, in shadow or illuminated, with the far wall's loss of 5 tenths a metre. Only a step with a loss is cut at zero.
 pub(crate) fn screen_step(s: Segment, m: u64) -> i32
     requires { ⌜ Ranges s × (Differs s m × (unscreened s ≡ false)) ⌝ }
     ensures { λ r. ⌜ Exactly (nearest (screenFence s)) r ⌝ }
