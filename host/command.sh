@@ -267,6 +267,12 @@ interrupted() {
     fresh stopped
     status=0
     SLOW=60 with_kit python3 -c 'import os, signal, subprocess, sys, time
+def goes_on(process):
+    # One that has ended stands in /proc until its new parent asks for it, and that may take seconds.
+    try:
+        return open(f"/proc/{process}/stat").read().rpartition(")")[2].split()[0] != "Z"
+    except OSError:
+        return False
 number = signal.Signals[sys.argv[1]]
 signal.signal(number, signal.SIG_DFL)
 command = subprocess.Popen(["stopped/railnoise.sh", "other"])
@@ -275,7 +281,7 @@ while not os.path.exists("stopped/child") or not open("stopped/child").read():
 command.send_signal(number)
 ended = command.wait(timeout=20)
 for _ in range(40):
-    if not os.path.exists("/proc/" + open("stopped/child").read().strip()):
+    if not goes_on(open("stopped/child").read().strip()):
         break
     time.sleep(0.05)
 else:
