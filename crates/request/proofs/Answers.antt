@@ -53,7 +53,7 @@ module _ (entries needed n : ℕ) where
   request-number = simp unless-number
 
 -- an answer's check
-answer-check : (check : Check) (d n : PeriodResult) → answerOf check d n .check ≡ check
+pub answer-check : (check : Check) (d n : PeriodResult) → answerOf check d n .check ≡ check
 unfolding answerOf refusedBy
 answer-check Accepted d n = refl
 answer-check (Refused r) d n = refl

@@ -1,4 +1,4 @@
--- Every entry's level, with any mark: near its fence, from -200 to 200 dB where it is not silent.
+-- Every entry's level, with any mark: near its fence, from -200 to 180 dB where it is not silent.
 -- Assumes nothing.
 use mathlib.Core.Path.{_≡_, refl, sym, _∙_, ap, ap₂, subst}
 use mathlib.Core.Bool.{Bool, true, false}
@@ -61,16 +61,16 @@ module _ (p : Period) (s : Segment) (t : Train) (es : segmentCheck s ≡ Accepte
     pub entry-most : entryFence p s t ≤ℤ pos 200000000
     entry-most = omega (arith, ints, entry-lies .most)
 
-    pub level-lies : (mark : Bool) → Signed 2000 2000 (entryTenths p s mark t)
-    level-lies mark = near-lies 2000 2000 (entryTenths p s mark t) (entryFence p s t) (lit≤ tt) (lit≤ tt) (near-entry p s mark t) entry-lies
+    pub level-lies : (mark : Bool) → Signed 2000 1800 (entryTenths p s mark t)
+    level-lies mark = near-lies 2000 1800 (entryTenths p s mark t) (entryFence p s t) (lit≤ tt) (lit≤ tt) (near-entry p s mark t) entry-lies
 
 -- ---- for every figure
 
-train-tenths-lie : (p : Period) (t : Train) → trainCheck t ≡ Accepted → sounds p t ≡ true → Signed 2000 2000 (trainTenths p t)
-train-tenths-lie p t et trains = near-lies 2000 2000 (trainTenths p t) _ (lit≤ tt) (lit≤ tt) (near-train p t) (train-lies p t (train-ranged t et) (runs p t trains))
+train-tenths-lie : (p : Period) (t : Train) → trainCheck t ≡ Accepted → sounds p t ≡ true → Signed 2000 1800 (trainTenths p t)
+train-tenths-lie p t et trains = near-lies 2000 1800 (trainTenths p t) _ (lit≤ tt) (lit≤ tt) (near-train p t) (train-lies p t (train-ranged t et) (runs p t trains))
 
 -- and so where its segment is refused and adds nothing
-alone-lies : (p : Period) (t : Train) → trainCheck t ≡ Accepted → sounds p t ≡ true → Signed 2000 2000 (pos 0 +ℤ trainTenths p t)
+alone-lies : (p : Period) (t : Train) → trainCheck t ≡ Accepted → sounds p t ≡ true → Signed 2000 1800 (pos 0 +ℤ trainTenths p t)
 alone-lies p t et trains = let zero : Signed 0 0 (pos 0) = record { most = lit≤ tt; least = lit≤ tt } in lies-add zero (train-tenths-lie p t et trains)
 
 no-figure {ℓ} : {A : Type ℓ} (r : ℤ) → _≡_ {A = Level} Silent (Figure r) → A
@@ -79,16 +79,16 @@ no-figure r e = let z : _≡_ {A = ℕ} 0 1 = cc in let x : ⊥ = omega arith in
 same-figure : (P : ℤ → Type 0) (a r : ℤ) → _≡_ {A = Level} (Figure a) (Figure r) → P a → P r
 same-figure P a r e h = let q : a ≡ r = cc in subst P q h
 
-pub levels-lie : (p : Period) (s : Segment) (mark : Bool) (t : Train) (r : ℤ) → levelBy p s mark t ≡ Figure r → Signed 2000 2000 r
+pub levels-lie : (p : Period) (s : Segment) (mark : Bool) (t : Train) (r : ℤ) → levelBy p s mark t ≡ Figure r → Signed 2000 1800 r
 unfolding levelBy raised
 levels-lie p s mark t r = cases (trainCheck t) refl (sounds p t) refl (segmentCheck s) refl
   where
     d : ℤ
     d = addedUp (segmentBreakdownBy s mark)
 
-    cases : (x : Check) → trainCheck t ≡ x → (b : Bool) → sounds p t ≡ b → (y : Check) → segmentCheck s ≡ y → raised d (emissionOf p t) ≡ Figure r → Signed 2000 2000 r
-    cases Accepted et true eb Accepted es e = same-figure (Signed 2000 2000) _ r (sym (level-figure p s t es et mark eb) ∙ e) (level-lies p s t es et eb mark)
+    cases : (x : Check) → trainCheck t ≡ x → (b : Bool) → sounds p t ≡ b → (y : Check) → segmentCheck s ≡ y → raised d (emissionOf p t) ≡ Figure r → Signed 2000 1800 r
+    cases Accepted et true eb Accepted es e = same-figure (Signed 2000 1800) _ r (sym (level-figure p s t es et mark eb) ∙ e) (level-lies p s t es et eb mark)
     cases Accepted et true eb (Refused k) es e =
-        same-figure (Signed 2000 2000) _ r (sym (ap₂ raised (refused-tenths s mark es) (emits-figure p t et eb)) ∙ e) (alone-lies p t et eb)
+        same-figure (Signed 2000 1800) _ r (sym (ap₂ raised (refused-tenths s mark es) (emits-figure p t et eb)) ∙ e) (alone-lies p t et eb)
     cases Accepted et false eb y es e = no-figure r (sym (ap (raised d) (emits-none p t et eb)) ∙ e)
     cases (Refused k) et b eb y es e = no-figure r (sym (ap (raised d) (refused-silent p t et)) ∙ e)

@@ -61,6 +61,11 @@ module _ (p : Period) (plan : Plan) where
       go Day = refl
       go Night = refl
 
+  -- the level that the program's own marks give is the total of the entries' levels
+  pub own-level : resultBy p plan (ownMarks plan) .level ≡ totalOf (figures (map (levelAt p plan (groundMarks plan)) (plan .entries))) .level
+  unfolding resultBy resultFrom levelsOf levelAt ownMarks totalOf
+  own-level = ap (λ (b : Bool). totalBy b (figures (map (levelAt p plan (groundMarks plan)) (plan .entries))) .level) own-total
+
   -- from the levels: their total, the segments heard in them, and the verdict on the total
   pub period-is : (close : List Bool) → length (plan .segments) ≤ ours .segments → length (plan .entries) ≤ ours .entries → ((k : ℕ) → getD close k false ≡ propagationOf (segmentAt plan k) .close)
       → periodFrom p (cellsOf p plan) (placesOf (plan .entries)) close ≡ resultBy p plan (ownMarks plan)

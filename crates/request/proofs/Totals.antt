@@ -11,7 +11,9 @@ use Rattle.decibel.proofs.Ints.{ints}
 use Rattle.decibel.specs.declared.Level.{Level}
 use Rattle.decibel.specs.declared.Level.the-variants.{Silent, Figure}
 use Rattle.energy.specs.Total.{heard}
+use Rattle.energy.specs.Mark.{heightOf, loudestOf}
 use Rattle.energy.specs.Rising.{LevelsKept, none, next}
+use Rattle.energy.proofs.Levels.{height-is, louder}
 use Rattle.energy.proofs.Order.{le-true, lt-false}
 use Rattle.figures.specs.declared.Period.{Period}
 use Rattle.emission.specs.Emission.{emissionOf, raised}
@@ -25,11 +27,11 @@ use Rattle.request.specs.Request.{soundsAt}
 use Rattle.request.specs.Private.{placesOf}
 use Rattle.request.proofs.EntryLevels.{levels-lie}
 
--- a level from -200 to 200 dB, or silent
+-- a level from -200 to 180 dB, or silent
 abbrev pub Lies : Level → Type 0
-Lies l = (r : ℤ) → l ≡ Figure r → Signed 2000 2000 r
+Lies l = (r : ℤ) → l ≡ Figure r → Signed 2000 1800 r
 
-module _ {r : ℤ} (lies : Signed 2000 2000 r) where
+module _ {r : ℤ} (lies : Signed 2000 1800 r) where
   at-least : negsuc 1999 ≤ℤ r
   at-least = omega (arith, ints, lies .least)
 
@@ -41,6 +43,14 @@ kept-more : (l : Level) (ls : List Level) → Lies l → LevelsKept (figures ls)
 unfolding figures
 kept-more Silent ls lies h = h
 kept-more (Figure r) ls lies h = next (at-least (lies r refl)) (at-most (lies r refl)) h
+
+-- the loudest has a height of 3801 at most: that of 180 dB
+loudest-more : (l : Level) (ls : List Level) → Lies l → loudestOf (figures ls) ≤ 3801 → loudestOf (figures (l ∷ ls)) ≤ 3801
+unfolding figures loudestOf
+loudest-more Silent ls lies h = h
+loudest-more (Figure r) ls lies h =
+    let top = lies r refl in
+    louder (λ t. t ≤ 3801) (heightOf r) (loudestOf (figures ls)) (λ _. h) (λ _. omega (arith, top .most, top .least, height-is r (at-least top)))
 
 few-more : (l : Level) (ls : List Level) {n : ℕ} → length (figures ls) ≤ n → length (figures (l ∷ ls)) ≤ suc n
 unfolding figures
@@ -61,6 +71,11 @@ module _ (p : Period) (plan : Plan) (m : Marks) where
   unfolding figures
   figures-kept [] = none
   figures-kept (e ∷ es) = kept-more (levelAt p plan m e) (map (levelAt p plan m) es) (entry-lies e) (figures-kept es)
+
+  pub figures-loudest : (es : List Entry) → loudestOf (figures (map (levelAt p plan m) es)) ≤ 3801
+  unfolding figures loudestOf
+  figures-loudest [] = omega arith
+  figures-loudest (e ∷ es) = loudest-more (levelAt p plan m e) (map (levelAt p plan m) es) (entry-lies e) (figures-loudest es)
 
   pub figures-few : (es : List Entry) → length (figures (map (levelAt p plan m) es)) ≤ length es
   unfolding figures

@@ -189,7 +189,7 @@ fn limit_tenths(period: Period) -> i32
 }
 
 // Whether a level meets the period's limit; silent never does.
-fn is_met(period: Period, level: Level) -> bool
+pub fn is_met(period: Period, level: Level) -> bool
     ensures { λ r. ⌜ r ≡ metBy period level ⌝ }
 {
     match level {
