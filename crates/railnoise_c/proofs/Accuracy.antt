@@ -25,7 +25,8 @@ use Rattle.text.proofs.Counted.{accepted-text-has-entry}
 use Rattle.text.proofs.Accuracy.{text-accurate}
 use Rattle.railnoise_c.specs.declared.RailnoiseAnswer.{RailnoiseAnswer}
 use Rattle.text.specs.Answer.{atLine, answerWith, cellsWith, textAnswer}
-use Rattle.railnoise_c.specs.Exported.{isSilent, exportedPeriod, exported, Called}
+use Rattle.c_values.specs.Values.{isSilent}
+use Rattle.railnoise_c.specs.Exported.{exportedPeriod, exported, Called}
 use Rattle.railnoise_c.specs.Accuracy.{listedIn, periodIn, PeriodAccurate, AnswerAccurate, CallAccurate}
 
 -- what C gets of a period's result is as accurate as the result

@@ -1,14 +1,12 @@
 -- What the exported function hands to C, and what the caller's cells then hold (01, "Turned back for the study's condition" and "The text").
 -- Assumes nothing.
 use mathlib.Core.Path.{_≡_}
-use mathlib.Core.Bool.{Bool, true, false}
 use mathlib.Core.List.{List}
-use Prim.Native.Nat.{ℕ, min}
-use lib.IntN.{ℤ, pos}
+use Prim.Native.Nat.{ℕ}
+use lib.IntN.{ℤ}
 use lib.ListN.{length}
-use Rattle.decibel.specs.declared.Level.{Level}
-use Rattle.decibel.specs.declared.Level.the-variants.{Silent, Figure}
 use Rattle.figures.specs.Refusal.{checkNumber}
+use Rattle.c_values.specs.Values.{isSilent, tenthsOf, lineValue}
 use Rattle.request.specs.declared.PeriodResult.{PeriodResult}
 use Rattle.study.specs.Add.{ours}
 use Rattle.request.specs.Levels.{ownMarks, MarksAllowed}
@@ -20,26 +18,13 @@ use Rattle.railnoise_c.specs.declared.RailnoiseAnswer.{RailnoiseAnswer}
 
 -- ---- the values of C's structs
 
-abbrev pub isSilent : Level → Bool
-isSilent Silent = true
-isSilent (Figure tenths) = false
-
--- tenths; 0 where the level is silent
-abbrev pub tenthsOf : Level → ℤ
-tenthsOf Silent = pos 0
-tenthsOf (Figure tenths) = tenths
-
 unfoldable pub exportedPeriod : PeriodResult → RailnoisePeriod
 exportedPeriod r = record { silent = isSilent (r .level); level = tenthsOf (r .level); close = r .close; met = r .met }
-
--- a line as 32 bits hold it: one above 4,294,967,295 counts as that
-abbrev pub exportedLine : ℕ → ℕ
-exportedLine line = min line 4294967295
 
 -- 01's number of the refusal, 0 where answered, with the line of the text that it concerns, 0 where none, and both periods
 unfoldable pub exported : TextAnswer → RailnoiseAnswer
 exported a =
-    record { refusal = checkNumber (a .check); line = exportedLine (a .line); day = exportedPeriod (a .day); night = exportedPeriod (a .night) }
+    record { refusal = checkNumber (a .check); line = lineValue (a .line); day = exportedPeriod (a .day); night = exportedPeriod (a .night) }
 
 -- the whole of a call: by the program's own marks, and 01 allows these
 pub record Called (text : List ℕ) (before after : List ℤ) (r : RailnoiseAnswer) : Type 0 where

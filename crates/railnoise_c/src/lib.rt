@@ -1,7 +1,8 @@
 // The one function for C: a study text and working cells in, both periods' results out.
 ghost use mathlib.Core.Path.{_≡_};
-ghost use Rattle.railnoise_c.specs.Exported.{exportedPeriod, exportedLine, exported, Called};
-use decibel::Level;
+ghost use Rattle.railnoise_c.specs.Exported.{exportedPeriod, exported, Called};
+use c_values::level_value;
+use c_values::line_value;
 use request::PeriodResult;
 use text::TextAnswer;
 
@@ -27,29 +28,12 @@ fn period_of(result: PeriodResult) -> RailnoisePeriod
     ensures { λ r. ⌜ r ≡ exportedPeriod result ⌝ }
 {
     let level = result.level;
-    match level {
-        Level::Silent => RailnoisePeriod {
-            silent: true,
-            level: 0,
-            close: result.close,
-            met: result.met,
-        },
-        Level::Figure(tenths) => RailnoisePeriod {
-            silent: false,
-            level: tenths,
-            close: result.close,
-            met: result.met,
-        },
-    }
-}
-
-fn line_of(line: usize) -> u32
-    ensures { λ r. ⌜ r ≡ exportedLine line ⌝ }
-{
-    if line < 4294967295 {
-        line as u32
-    } else {
-        4294967295
+    let value = level_value(level);
+    RailnoisePeriod {
+        silent: value.silent,
+        level: value.tenths,
+        close: result.close,
+        met: result.met,
     }
 }
 
@@ -58,7 +42,7 @@ fn answer_of(answer: TextAnswer) -> RailnoiseAnswer
 {
     let check = answer.check;
     let refusal = figures::check_number(check);
-    let at = line_of(answer.line);
+    let at = line_value(answer.line);
     RailnoiseAnswer {
         refusal: refusal,
         line: at,

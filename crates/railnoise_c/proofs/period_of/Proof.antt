@@ -3,26 +3,18 @@
 use mir.Facts.{toZ-ofZ}
 use mir.Syntax.{w32}
 use mir.Val.{SFits}
+use Rattle.c_values.specs.Values.{levelValue}
 use Rattle.railnoise_c.specs.Exported.{exportedPeriod}
 use borrow.Author.Needs.{needs}
 use Rattle.railnoise_c.proofs.period_of.Statement.{statement}
 use Rattle.railnoise_c.proofs.period_of.Tie as tie
 
-enum-told : tie.Need-enum-told
-enum-told c = search needs
-
-enum-known-level : tie.Need-enum-known-level
-enum-known-level c = search needs
-
 returns : tie.Need-returns
-unfolding exportedPeriod
-returns c = simp (c .enum-told .given .1)
-
-returns-2 : tie.Need-returns-2
-unfolding exportedPeriod
-returns-2 c =
-    let f : SFits w32 (c .before .level .given .0 .0) = search needs in
-    simp (c .before .level .given .1, toZ-ofZ f)
+unfolding exportedPeriod levelValue
+returns c =
+    let value = c .before .level-value in
+    let f : SFits w32 (value .result .tenths) = search needs in
+    rw (toZ-ofZ f, value .ensures)
 
 pub period-of-spec : {M : Type 1} → statement M
-period-of-spec = tie.close (tie.spec enum-told enum-known-level returns returns-2)
+period-of-spec = tie.close (tie.spec (λ c κs. search needs) returns)

@@ -1,0 +1,39 @@
+// Values as C's structs hold them.
+ghost use mathlib.Core.Path.{_≡_};
+ghost use Rattle.c_values.specs.Values.{levelValue, lineValue};
+use decibel::Level;
+
+// The largest number of 32 bits.
+const MOST_LINE: usize = 4294967295;
+
+// A level: whether it is silent, and its tenths, 0 when silent.
+pub struct LevelValue {
+    pub silent: bool,
+    pub tenths: i32,
+}
+
+pub fn level_value(level: Level) -> LevelValue
+    ensures { λ r. ⌜ r ≡ levelValue level ⌝ }
+{
+    match level {
+        Level::Silent => LevelValue {
+            silent: true,
+            tenths: 0,
+        },
+        Level::Figure(tenths) => LevelValue {
+            silent: false,
+            tenths,
+        },
+    }
+}
+
+// A line's number, as far as 32 bits go.
+pub fn line_value(line: usize) -> u32
+    ensures { λ r. ⌜ r ≡ lineValue line ⌝ }
+{
+    if line < MOST_LINE {
+        line as u32
+    } else {
+        4294967295
+    }
+}
