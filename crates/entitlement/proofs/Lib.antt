@@ -1,0 +1,5 @@
+pub mod Combined
+pub mod Periods
+pub mod Reports
+pub mod Answers
+pub mod Silence

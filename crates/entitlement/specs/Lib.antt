@@ -1,0 +1,4 @@
+pub mod Conditions
+pub mod Entitlement
+pub mod Silence
+pub mod Private
