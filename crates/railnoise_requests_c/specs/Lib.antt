@@ -1,0 +1,2 @@
+pub mod Entitlement
+pub mod Private
