@@ -1,11 +1,13 @@
 /* Memory that ends where no page is: a read or write past it stops the program at once, whatever
- * language the library was compiled from. Needs _DEFAULT_SOURCE. */
+ * language the library was compiled from. Beside it memory of exactly the right size, for the sanitizers
+ * and valgrind. Needs _DEFAULT_SOURCE. */
 #ifndef GUARDED_H
 #define GUARDED_H
 
 #include <stdint.h>
 #include <stdio.h>
 #include <stdlib.h>
+#include <string.h>
 #include <sys/mman.h>
 #include <unistd.h>
 
@@ -35,6 +37,26 @@ static inline void *guarded_end(guarded room, size_t size)
         exit(2);
     }
     return room.start + (room.size - size);
+}
+
+/* A copy of some bytes that ends with the room. */
+static inline uint8_t *guarded_copy(guarded room, const void *bytes, size_t size)
+{
+    uint8_t *copy = guarded_end(room, size);
+    if (size > 0)
+        memcpy(copy, bytes, size);
+    return copy;
+}
+
+/* A copy of some bytes on the heap, for free. */
+static inline uint8_t *heap_copy(const void *bytes, size_t size)
+{
+    uint8_t *copy = malloc(size > 0 ? size : 1);
+    if (copy == NULL)
+        exit(2);
+    if (size > 0)
+        memcpy(copy, bytes, size);
+    return copy;
 }
 
 #endif

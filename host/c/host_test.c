@@ -5,8 +5,8 @@
 #include "guarded.h"
 #include "railnoise.h"
 #include "texts.h"
+#include "threads.h"
 
-#include <pthread.h>
 #include <string.h>
 
 #define SENTINELS 8
@@ -48,12 +48,10 @@ static bool all(const int32_t *cells, size_t count, int32_t value)
 static outcome ask_on_heap(const char *text, size_t length, size_t cell_count)
 {
     outcome o;
-    uint8_t *copy = malloc(length > 0 ? length : 1);
+    uint8_t *copy = heap_copy(text, length);
     int32_t *room = malloc((cell_count + 2 * SENTINELS) * sizeof *room);
-    if (copy == NULL || room == NULL)
+    if (room == NULL)
         exit(2);
-    if (length > 0)
-        memcpy(copy, text, length);
     fill(room, cell_count + 2 * SENTINELS, SENTINEL);
     fill(room + SENTINELS, cell_count, UNTOUCHED);
     o.answer = railnoise_levels(copy, length, room + SENTINELS, cell_count);
@@ -75,10 +73,8 @@ static outcome ask_at_page_end(const char *text, size_t length, size_t cell_coun
         cell_room = guarded_make(sizeof(outcome));
     }
     outcome o;
-    uint8_t *copy = guarded_end(text_room, length);
+    uint8_t *copy = guarded_copy(text_room, text, length);
     int32_t *cells = guarded_end(cell_room, cell_count * sizeof *cells);
-    if (length > 0)
-        memcpy(copy, text, length);
     fill(cells, cell_count, -1);
     o.answer = railnoise_levels(copy, length, cells, cell_count);
     memcpy(o.cells, cells, cell_count * sizeof *cells);
@@ -133,7 +129,6 @@ enum { FIGURES = 15 };
 static const int32_t plain_segment[FIGURES] = { 2500, 0, 600, 0, 180, 180, 0, 0, 0, 0, 0, 0, 0, 0, 0 };
 static const int32_t screened_segment[FIGURES] = { 2500, 0, 600, 0, 180, 180, 2, 1000, 0, 0, 0, 0, 0, 0, 0 };
 static const int32_t plain_train[5] = { 1, 100, 1, 1, 1 };
-enum { PLAIN_DAY = 148 + 712 - 481, PLAIN_NIGHT = 148 + 712 - 433 };
 
 static char *put_numbers(char *at, const int32_t *numbers, int count)
 {
@@ -474,9 +469,6 @@ static void test_far_wall(void)
         expect_refusal(one_with(refusals[i].base, refusals[i].changes), refusals[i].refusal, 2);
 }
 
-#define SEGMENT "2500 0 600 0 180 180 0 0 0 0 0 0 0 0 0\n"
-#define TRAIN "1 100 1 1 1\n"
-
 static void test_text_form(void)
 {
     static const char *const words[] = { "", "-", "-0", "00", "01", "+1", "100000", "-100000", "1.0", "x", "1\t",
@@ -558,18 +550,6 @@ static void test_no_state_refusals(void)
     expect_refusal_bytes("2 0 0\n" SEGMENT SEGMENT, sizeof "2 0 0\n" SEGMENT SEGMENT - 1, 0, 13, 1);
 }
 
-/* 24 segments and 96 trains; each figure as wide as it can be. */
-static size_t full_study(char *text)
-{
-    char *at = put_contents(text, 24, 4);
-    for (int i = 0; i < 24; i++) {
-        at += sprintf(at, "30000 5000 5000 10 180 180 2 29900 -2000 100 150 0 1 180 100\n");
-        for (int k = 0; k < 4; k++)
-            at += sprintf(at, "34 300 60 2000 2000\n");
-    }
-    return (size_t)(at - text);
-}
-
 static void test_cells(void)
 {
     expect_refusal_bytes(sample, sizeof sample - 1, 5, 24, 0);
@@ -585,12 +565,10 @@ static void test_cells(void)
     size_t length = full_study(text);
     expect_refusal_bytes(text, length, RAILNOISE_MOST_CELLS - 1, 24, 0);
     o = ask_bytes(text, length, RAILNOISE_MOST_CELLS);
-    /* 14.8 + 80.7 + 17.8 + 33.0 - 48.1 by day, - 10.9 - 2.2 at 304.14 m, 0.0 for the screen (over 0.4 m off
-     * the line of sight, and no more behind a far wall) and for the angle, + 10.0 + 15.0 + 2.5 + 1.5; 96 like
-     * levels add 19.8. */
-    CHECK(o.answer.refusal == 0 && all(o.cells, 96, 1141) && all(o.cells + 96, 96, 1189), "full study's cells");
-    expect_period(o.answer.day, 1141 + 198, 0, true, "full study by day");
-    expect_period(o.answer.night, 1189 + 198, 0, true, "full study by night");
+    CHECK(o.answer.refusal == 0 && all(o.cells, 96, FULL_ENTRY_DAY) && all(o.cells + 96, 96, FULL_ENTRY_NIGHT),
+          "full study's cells");
+    expect_period(o.answer.day, FULL_DAY, 0, true, "full study by day");
+    expect_period(o.answer.night, FULL_NIGHT, 0, true, "full study by night");
     o = ask_bytes(text, length, RAILNOISE_MOST_CELLS + 9);
     CHECK(all(o.cells + RAILNOISE_MOST_CELLS, 9, UNTOUCHED), "cells past 192");
 }
@@ -637,28 +615,20 @@ static void test_length(void)
     expect_refusal_bytes(text, LIMIT, 6, 12, 1);
 }
 
-static void *ask_often(void *failures)
+static void ask_often(asker *self)
 {
     static const int32_t expected[6] = { 526, 615, 553, 460, 549, 487 };
     for (int i = 0; i < 200; i++) {
         int32_t cells[6];
         railnoise_answer a = railnoise_levels((const uint8_t *)sample, sizeof sample - 1, cells, 6);
         if (a.refusal != 0 || a.day.level != 629 || memcmp(cells, expected, sizeof cells) != 0)
-            ++*(int *)failures;
+            self->failures++;
     }
-    return NULL;
 }
 
 static void test_threads(void)
 {
-    pthread_t threads[2];
-    int failures[2] = { 0, 0 };
-    for (int i = 0; i < 2; i++)
-        if (pthread_create(&threads[i], NULL, ask_often, &failures[i]) != 0)
-            exit(2);
-    for (int i = 0; i < 2; i++)
-        pthread_join(threads[i], NULL);
-    CHECK(failures[0] == 0 && failures[1] == 0, "two threads at once");
+    CHECK(failures_of_two(ask_often) == 0, "two threads at once");
 }
 
 /* Every refusal of document 01 has words of its own, those that no text leads to as well. Limits that
