@@ -1,37 +1,45 @@
 #!/bin/sh
-# Host tests of the C function: plain, under AddressSanitizer and UndefinedBehaviorSanitizer, and
-# under valgrind, which also sees inside an archive that was not built with a sanitizer. Before them the
+# Host tests of the C functions: plain, under AddressSanitizer and UndefinedBehaviorSanitizer, and
+# under valgrind, which also sees inside an archive that was not built with a sanitizer. Before them each
 # header is compiled alone, as C99 and, where there is a compiler for it, as C++.
-#   host/test.sh [ARCHIVE]
-# ARCHIVE: the static library to test, by default the product's as rt staticlib writes it.
+#   host/test.sh [ARCHIVE [REQUESTS_ARCHIVE]]
+# The static libraries to test, by default the product's as rt staticlib writes them.
 set -eu
 here=$(cd "$(dirname "$0")" && pwd)
+include=$here/../include
 archive=${1:-$here/../target/staticlib/librailnoise_c.a}
+requests_archive=${2:-$here/../target/staticlib/librailnoise_requests_c.a}
 [ -r "$archive" ] || { echo "$archive is missing: run rt staticlib railnoise_c" >&2; exit 2; }
+[ -r "$requests_archive" ] || { echo "$requests_archive is missing: run rt staticlib railnoise_requests_c" >&2; exit 2; }
 build=$here/build
 mkdir -p "$build"
 
-# header COMPILER LANGUAGE STANDARD
-header() {
-    "$1" -x "$2" -std="$3" -Wall -Wextra -Wpedantic -Werror -fsyntax-only -include "$here/../include/railnoise.h" /dev/null
+# headers COMPILER LANGUAGE STANDARD
+headers() {
+    for header in railnoise.h railnoise_requests.h; do
+        "$1" -x "$2" -std="$3" -Wall -Wextra -Wpedantic -Werror -fsyntax-only -include "$include/$header" /dev/null
+    done
 }
 
-header gcc c c99
+headers gcc c c99
 if command -v g++ >/dev/null; then
-    header g++ c++ c++11
+    headers g++ c++ c++11
 fi
 
-compile() {
-    output=$1
+# try NAME ARCHIVE...: c/NAME.c with these archives
+try() {
+    name=$1
     shift
-    gcc -std=c11 -Wall -Wextra -Werror -O1 -g "$@" -I"$here/../include" "$here/c/host_test.c" "$archive" \
-        ${LINK_FLAGS:-} -lm -lpthread -o "$build/$output"
+    # shellcheck disable=SC2086 # several flags
+    set -- -std=c11 -Wall -Wextra -Werror -O1 -g -I"$include" "$here/c/$name.c" "$@" ${LINK_FLAGS:-} -lm -lpthread
+    gcc "$@" -o "$build/$name"
+    gcc -fsanitize=address,undefined -fno-sanitize-recover=all "$@" -o "$build/${name}_sanitized"
+    "$build/$name"
+    "$build/${name}_sanitized"
+    if command -v valgrind >/dev/null; then
+        valgrind -q --error-exitcode=3 "$build/$name"
+    fi
 }
 
-compile host_test
-compile host_test_sanitized -fsanitize=address,undefined -fno-sanitize-recover=all
-"$build/host_test"
-"$build/host_test_sanitized"
-if command -v valgrind >/dev/null; then
-    valgrind -q --error-exitcode=3 "$build/host_test"
-fi
+try host_test "$archive"
+try requests_test "$archive" "$requests_archive"

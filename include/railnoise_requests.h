@@ -1,0 +1,85 @@
+/* Requests that are put to several studies of one window: whether a house is entitled to insulation.
+ *
+ * This header includes railnoise.h, which describes a study's text, its figures, periods and refusals. The
+ * archive is librailnoise_requests_c.a; it stands on its own and can be linked beside librailnoise_c.a.
+ * What railnoise.h says of threads, memory and the C library holds here too; a call takes less than 16 kB
+ * of stack.
+ */
+#ifndef RAILNOISE_REQUESTS_H
+#define RAILNOISE_REQUESTS_H
+
+#include "railnoise.h"
+
+#ifdef __cplusplus
+extern "C" {
+#endif
+
+/* Two levels combined by Chart 9, from their reported tenths. A silent level adds nothing: beside one, the
+ * other stands as it is and is not close. */
+typedef struct {
+    bool silent;   /* both levels are silent; then level is 0 and close is false */
+    int32_t level; /* tenths of a decibel; it may be below zero */
+    bool close;    /* this combination lay less than 0.002 dB from a tie and was taken as one, to the louder
+                      tenth. It says nothing of the roundings within the studies: railnoise_levels does */
+} railnoise_combined;
+
+/* The three conditions of paragraph 7, for one period. Levels are compared as they are shown, in tenths. */
+typedef struct {
+    railnoise_combined prevailing; /* before the works: the altered lines and the other lines */
+    railnoise_combined relevant;   /* after them, likewise */
+    bool reaches;     /* (i) the relevant level, to the nearest whole decibel with halves up, reaches 68 by
+                         day or 63 by night */
+    bool rises;       /* (ii) the relevant level is at least 1.0 dB above the prevailing level */
+    bool contributes; /* (iii) the relevant level is at least 1.0 dB above the level of the other lines
+                         after the works: what the altered lines contribute */
+    bool entitled;    /* all three hold */
+} railnoise_entitlement_period;
+
+/* The answer to one request. */
+typedef struct {
+    uint32_t refusal; /* 0 when answered, else the number by which a text was refused, 1 to 13 */
+    uint32_t text;    /* which text was refused: 1 altered before, 2 altered after, 3 other before, 4 other
+                         after; 0 when answered */
+    uint32_t line;    /* its refused line, counted from 1; 0 where there is none */
+    railnoise_entitlement_period day;
+    railnoise_entitlement_period night; /* on a refusal all levels are silent, and no condition holds */
+    bool entitled;                      /* the house: by day or by night */
+} railnoise_entitlement_answer;
+
+/* Whether a house is entitled to insulation: altered lines and all other lines at its window, each before
+ * and after the works.
+ *
+ * Each of the four sets of lines is a study's text with its length, as railnoise_levels takes it. One that
+ * has no lines is marked as empty: the lines to be built, before the works; a house without other lines. It
+ * is then silent and its text is not looked at: give null and 0. A set that is not marked needs a study of
+ * at least one train entry, so an empty text by itself is no empty study: it is refusal 13 at line 1.
+ *
+ * In a period without trains a set's level is silent. Silent lies more than 1.0 dB below every figure and is
+ * not above another silent one. So where the relevant level is silent, no condition holds; where only the
+ * prevailing level is, the relevant one rises; where only the other lines after are, it contributes.
+ *
+ * The texts are looked at in the order of the parameters; the first that is refused ends the request. No
+ * cells are lent. Texts are only read, and one text may be given twice: other lines that stay as they are.
+ * A null pointer goes only with length 0.
+ *
+ * A house that is entitled by night alone: a siding that had trains by day gets eight by night, and a line
+ * beside it stays as it is.
+ *     altered before       "1 2\n2000 330 235 5 180 180 0 0 0 0 0 0 1 0 0\n20 50 30 24 0\n26 50 1 24 0\n"
+ *     altered after        "1 2\n2000 330 235 5 180 180 0 0 0 0 0 0 1 0 0\n20 50 30 24 8\n26 50 1 24 8\n"
+ *     other before, after  "1 1\n5000 330 235 5 180 180 0 0 0 0 0 0 1 0 0\n10 120 8 80 20\n"
+ * Their levels by day and night: the siding's 57.6 and silent, then 57.6 and 57.6; the line's 63.0 and 61.8. So
+ *     day: prevailing 64.1 dB, relevant 64.1 dB, reaches no, rises no, contributes yes: not entitled
+ *     night: prevailing 61.8 dB, relevant 63.2 dB, reaches yes, rises yes, contributes yes: entitled
+ *     the house is entitled
+ */
+railnoise_entitlement_answer railnoise_entitlement(
+    const uint8_t *altered_before, size_t altered_before_length, bool altered_before_empty,
+    const uint8_t *altered_after, size_t altered_after_length, bool altered_after_empty,
+    const uint8_t *other_before, size_t other_before_length, bool other_before_empty,
+    const uint8_t *other_after, size_t other_after_length, bool other_after_empty);
+
+#ifdef __cplusplus
+}
+#endif
+
+#endif
