@@ -1,5 +1,5 @@
 #!/bin/sh
-# Tries tools/install.sh: the installed command, and README's C example built with the flags of the installed pkg-config file.
+# Tries tools/install.sh: the installed command, and README's C examples built with the flags of the installed pkg-config files.
 #   host/install.sh
 # The prefix is moved before it is tried, as when it is copied to another machine. Where pkg-config is missing, its flags are written out here.
 set -eu
@@ -54,21 +54,31 @@ written=$(prefix/bin/railnoise --sample 2>&1) || status=$?
 case $written in *'program is missing'*) written=said ;; esac
 same 'the program taken away' 'said, status 2' "$written, status $status"
 
-if command -v pkg-config >/dev/null; then
-    PKG_CONFIG_PATH=$build/prefix/lib/pkgconfig
-    export PKG_CONFIG_PATH
-    same "pkg-config's version" "$version" "$(pkg-config --modversion railnoise)"
-    flags=$(pkg-config --cflags --libs railnoise)
-else
-    flags="-Iprefix/include -Lprefix/lib -lrailnoise_c"
-fi
-# The example and what it prints are those that README shows.
-awk '/^```c$/ { on = 1; next } /^```$/ { on = 0 } on' "$root/README.md" >example.c
-awk '/^```text$/ { on = 1; next } /^```$/ { on = 0 } on' "$root/README.md" >expected
-if [ ! -s example.c ] || [ ! -s expected ]; then
-    echo 'README shows no example' >&2
-    exit 1
-fi
-# shellcheck disable=SC2086 # several flags
-gcc -std=c99 -Wall -Wextra -Wpedantic -Werror example.c $flags -o example
-same "README's example" "$(cat expected)" "$(./example)"
+# block KIND NUMBER: what stands in README's fence of this kind and number
+block() {
+    awk -v fence='```'"$1" -v number="$2" '$0 == fence { on = ++found == number; next } /^```$/ { on = 0 } on' "$root/README.md"
+}
+
+# example NUMBER PACKAGE: the example and what it prints are those that README shows
+example() {
+    block c "$1" >"$2.c"
+    block text "$1" >"$2.expected"
+    if [ ! -s "$2.c" ] || [ ! -s "$2.expected" ]; then
+        echo "README shows no example $1" >&2
+        exit 1
+    fi
+    if command -v pkg-config >/dev/null; then
+        same "pkg-config's version of $2" "$version" "$(pkg-config --modversion "$2")"
+        flags=$(pkg-config --cflags --libs "$2")
+    else
+        flags="-Iprefix/include -Lprefix/lib -l$2_c"
+    fi
+    # shellcheck disable=SC2086 # several flags
+    gcc -std=c99 -Wall -Wextra -Wpedantic -Werror "$2.c" $flags -o "$2"
+    same "README's example of $2" "$(cat "$2.expected")" "$("./$2")"
+}
+
+PKG_CONFIG_PATH=$build/prefix/lib/pkgconfig
+export PKG_CONFIG_PATH
+example 1 railnoise
+example 2 railnoise_requests
