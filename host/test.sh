@@ -3,12 +3,12 @@
 # under valgrind, which also sees inside an archive that was not built with a sanitizer. Before them each
 # header is compiled alone, as C99 and, where there is a compiler for it, as C++.
 #   host/test.sh [ARCHIVE [REQUESTS_ARCHIVE]]
-# The static libraries to test, by default the product's as rt staticlib writes them.
+# The static libraries to test, by default the product's as rt staticlib writes them, the second beside the first.
 set -eu
 here=$(cd "$(dirname "$0")" && pwd)
 include=$here/../include
 archive=${1:-$here/../target/staticlib/librailnoise_c.a}
-requests_archive=${2:-$here/../target/staticlib/librailnoise_requests_c.a}
+requests_archive=${2:-$(dirname "$archive")/librailnoise_requests_c.a}
 [ -r "$archive" ] || { echo "$archive is missing: run rt staticlib railnoise_c" >&2; exit 2; }
 [ -r "$requests_archive" ] || { echo "$requests_archive is missing: run rt staticlib railnoise_requests_c" >&2; exit 2; }
 build=$here/build

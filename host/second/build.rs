@@ -1,6 +1,6 @@
-//! Links the product's archive (environment variable RAILNOISE_ARCHIVE, with LINK_FLAGS if it needs
-//! some) and the plain program into the test programs. Without an archive, and without the feature
-//! `mock`, only the plain program can be tried.
+//! Links the product's archives (environment variables RAILNOISE_ARCHIVE and RAILNOISE_REQUESTS_ARCHIVE, with
+//! LINK_FLAGS if they need some) and the plain program into the test programs. Without the archives, and
+//! without the feature `mock`, only the plain program can be tried.
 
 use std::env;
 use std::path::{Path, PathBuf};
@@ -23,23 +23,35 @@ fn link_plain(name: &str, flag: &str) {
     println!("cargo:rustc-link-arg-bins={}", object.display());
 }
 
+const ARCHIVES: [&str; 2] = ["RAILNOISE_ARCHIVE", "RAILNOISE_REQUESTS_ARCHIVE"];
+
+/// Links the product's archives, each of which shows its own function alone; false when none is named.
+fn link_product() -> bool {
+    let named = ARCHIVES.map(env::var_os);
+    if named.iter().all(Option::is_none) {
+        return false;
+    }
+    for (variable, archive) in ARCHIVES.into_iter().zip(named) {
+        let archive = archive.unwrap_or_else(|| panic!("{variable} is missing beside the other archive"));
+        let archive = Path::new(&archive).canonicalize().unwrap_or_else(|_| panic!("{variable} names no file"));
+        println!("cargo:rerun-if-changed={}", archive.display());
+        println!("cargo:rustc-link-arg-bins={}", archive.display());
+    }
+    for flag in env::var("LINK_FLAGS").unwrap_or_default().split_whitespace() {
+        println!("cargo:rustc-link-arg-bins={flag}");
+    }
+    true
+}
+
 fn main() {
     println!("cargo:rustc-check-cfg=cfg(product)");
     println!("cargo:rerun-if-changed=build.rs");
-    println!("cargo:rerun-if-env-changed=RAILNOISE_ARCHIVE");
-    println!("cargo:rerun-if-env-changed=LINK_FLAGS");
+    for variable in ARCHIVES.into_iter().chain(["LINK_FLAGS"]) {
+        println!("cargo:rerun-if-env-changed={variable}");
+    }
     link_plain("plain.o", "-UDIGIT_LOOP");
     link_plain("digits.o", "-DDIGIT_LOOP");
-    let mock = env::var_os("CARGO_FEATURE_MOCK").is_some();
-    if let (false, Some(archive)) = (mock, env::var_os("RAILNOISE_ARCHIVE")) {
-        let archive = Path::new(&archive).canonicalize().expect("RAILNOISE_ARCHIVE names a file");
-        println!("cargo:rerun-if-changed={}", archive.display());
-        println!("cargo:rustc-link-arg-bins={}", archive.display());
-        for flag in env::var("LINK_FLAGS").unwrap_or_default().split_whitespace() {
-            println!("cargo:rustc-link-arg-bins={flag}");
-        }
-        println!("cargo:rustc-cfg=product");
-    } else if mock {
+    if env::var_os("CARGO_FEATURE_MOCK").is_some() || link_product() {
         println!("cargo:rustc-cfg=product");
     }
     println!("cargo:rustc-link-arg-bins=-lm");

@@ -105,12 +105,7 @@ fn marks_shown(workings: &Workings, cells: &[i32]) -> Result<Vec<Option<bool>>, 
 
 /// Whether the total's mark may be this one, given the figure shown.
 fn total_allows(total: &Rounded, marked: bool, figure: i64) -> bool {
-    let allowed = match total.mark {
-        Mark::Required => marked,
-        Mark::Forbidden => !marked,
-        Mark::Free => true,
-    };
-    allowed && total.figure(marked) == figure
+    total.choices().contains(&(marked, figure))
 }
 
 /// A period's level and verdict; gives the total over its cells.

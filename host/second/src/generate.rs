@@ -149,7 +149,7 @@ const SCREEN: usize = 6;
 const SCREEN_DISTANCE: usize = 7;
 const SCREEN_TOP: usize = 8;
 const REFLECTION: usize = 9;
-const TRACK: usize = 10;
+pub const TRACK: usize = 10;
 const BALLAST: usize = 11;
 const OPPOSITE: usize = 13;
 const WALL: usize = 14;
@@ -422,7 +422,7 @@ fn one_sided_segment(random: &mut Random, louder: bool) -> SegmentNumbers {
 }
 
 /// A good segment of one of the kinds above.
-fn good_segment(random: &mut Random) -> SegmentNumbers {
+pub fn good_segment(random: &mut Random) -> SegmentNumbers {
     loop {
         let lean = random.chance(30);
         let mut segment = open_segment(random, lean);
@@ -450,7 +450,7 @@ fn good_segment(random: &mut Random) -> SegmentNumbers {
     }
 }
 
-fn good_entry(random: &mut Random) -> EntryNumbers {
+pub fn good_entry(random: &mut Random) -> EntryNumbers {
     let stock = stock();
     let style = random.below(3);
     let mut any = |low, high, ties: &[i32]| match style {
@@ -627,9 +627,8 @@ fn spoil(random: &mut Random, draft: &mut Draft) {
     }
 }
 
-/// The text of this number under this seed.
-pub fn case(seed: u64, index: u64) -> Case {
-    let random = &mut Random::new(seed, index);
+/// A good study of any of the kinds above.
+pub fn any_draft(random: &mut Random) -> Draft {
     let one_sided = random.chance(8);
     let mut draft = if one_sided { one_sided_draft(random) } else { good_draft(random) };
     match random.below(6) {
@@ -637,20 +636,39 @@ pub fn case(seed: u64, index: u64) -> Case {
         1 | 2 => aim_at_total_tie(random, &mut draft),
         _ => {}
     }
+    draft
+}
+
+/// A text with spoilt figures, and the name of that.
+fn spoilt(random: &mut Random, mut draft: Draft) -> (Vec<u8>, &'static str) {
+    spoil(random, &mut draft);
+    (draft.text(), "spoilt figures")
+}
+
+/// A damaged text, at times of spoilt figures, and the name of the damage.
+fn damaged(random: &mut Random, mut draft: Draft) -> (Vec<u8>, &'static str) {
+    if random.chance(10) {
+        spoil(random, &mut draft);
+    }
+    damage(random, &draft)
+}
+
+/// A text that is refused, but for few whose fault makes no difference.
+pub fn bad_text(random: &mut Random, draft: Draft) -> Vec<u8> {
+    let fault = if random.chance(45) { spoilt } else { damaged };
+    fault(random, draft).0
+}
+
+/// The text of this number under this seed.
+pub fn case(seed: u64, index: u64) -> Case {
+    let random = &mut Random::new(seed, index);
+    let draft = any_draft(random);
     let entries = draft.segments.iter().map(|(_, entries)| entries.len()).sum();
     let cells = cell_count(random, entries);
-    match random.below(100) {
-        0..=15 => {
-            spoil(random, &mut draft);
-            Case { text: draft.text(), cells, kind: "spoilt figures" }
-        }
-        16..=35 => {
-            if random.chance(10) {
-                spoil(random, &mut draft);
-            }
-            let (text, kind) = damage(random, &draft);
-            Case { text, cells, kind }
-        }
-        _ => Case { text: draft.text(), cells, kind: "good" },
-    }
+    let (text, kind) = match random.below(100) {
+        0..=15 => spoilt(random, draft),
+        16..=35 => damaged(random, draft),
+        _ => (draft.text(), "good"),
+    };
+    Case { text, cells, kind }
 }

@@ -1,4 +1,4 @@
-//! The C interface's answer, as include/railnoise.h lays it out.
+//! The C interface's answers, as include/railnoise.h and include/railnoise_requests.h lay them out.
 
 use crate::reader::Refusal;
 
@@ -25,6 +25,11 @@ pub type Levels = unsafe extern "C" fn(*const u8, usize, *mut i32, usize) -> Ans
 
 impl PeriodAnswer {
     pub const SILENT: PeriodAnswer = PeriodAnswer { silent: 1, level: 0, close: 0, met: 0 };
+
+    /// Tenths; none where silent.
+    pub fn figure(&self) -> Option<i64> {
+        (self.silent == 0).then_some(self.level as i64)
+    }
 }
 
 impl Answer {
@@ -33,6 +38,70 @@ impl Answer {
     }
 
     pub fn periods(&self) -> [PeriodAnswer; 2] {
+        [self.day, self.night]
+    }
+}
+
+/// Two levels combined.
+#[repr(C)]
+#[derive(Clone, Copy, PartialEq, Eq, Debug, Default)]
+pub struct Combined {
+    pub silent: u8,
+    pub level: i32,
+    pub close: u8,
+}
+
+#[repr(C)]
+#[derive(Clone, Copy, PartialEq, Eq, Debug, Default)]
+pub struct EntitlementPeriod {
+    pub prevailing: Combined,
+    pub relevant: Combined,
+    pub reaches: u8,
+    pub rises: u8,
+    pub contributes: u8,
+    pub entitled: u8,
+}
+
+#[repr(C)]
+#[derive(Clone, Copy, PartialEq, Eq, Debug, Default)]
+pub struct EntitlementAnswer {
+    pub refusal: u32,
+    pub text: u32,
+    pub line: u32,
+    pub day: EntitlementPeriod,
+    pub night: EntitlementPeriod,
+    pub entitled: u8,
+}
+
+impl Combined {
+    pub const SILENT: Combined = Combined { silent: 1, level: 0, close: 0 };
+
+    /// Tenths; none where silent.
+    pub fn figure(&self) -> Option<i64> {
+        (self.silent == 0).then_some(self.level as i64)
+    }
+}
+
+impl EntitlementPeriod {
+    pub const SILENT: EntitlementPeriod = EntitlementPeriod {
+        prevailing: Combined::SILENT,
+        relevant: Combined::SILENT,
+        reaches: 0,
+        rises: 0,
+        contributes: 0,
+        entitled: 0,
+    };
+}
+
+impl EntitlementAnswer {
+    /// `text` is the refused text's place, 1 to 4.
+    pub fn refused(text: u32, refusal: Refusal) -> EntitlementAnswer {
+        let silent = EntitlementPeriod::SILENT;
+        let Refusal { number, line } = refusal;
+        EntitlementAnswer { refusal: number, text, line, day: silent, night: silent, entitled: 0 }
+    }
+
+    pub fn periods(&self) -> [EntitlementPeriod; 2] {
         [self.day, self.night]
     }
 }

@@ -33,6 +33,16 @@ impl Rounded {
         }
     }
 
+    /// Each mark that is allowed, with the figure that it gives.
+    pub fn choices(&self) -> Vec<(bool, i64)> {
+        let marks: &[bool] = match self.mark {
+            Mark::Required => &[true],
+            Mark::Forbidden => &[false],
+            Mark::Free => &[false, true],
+        };
+        marks.iter().map(|&marked| (marked, self.figure(marked))).collect()
+    }
+
     /// A free mark that the figure shows.
     pub fn shown(&self) -> bool {
         self.mark == Mark::Free && self.louder != self.nearest

@@ -5,6 +5,7 @@ pub mod big;
 pub mod check;
 pub mod damage;
 pub mod energy;
+pub mod entitlement;
 pub mod generate;
 pub mod guarded;
 pub mod interface;
@@ -12,9 +13,11 @@ pub mod levels;
 pub mod logarithm;
 pub mod mock;
 pub mod reader;
+pub mod requests;
 pub mod spoil;
 pub mod steps;
 pub mod study;
+pub mod tally;
 pub mod wide;
 
 /// For test programs in C: 1 when the answer is allowed, else 0 with the reason on standard error.

@@ -1,11 +1,15 @@
-//! An answer made by this implementation itself: it stands in for the product until that exists.
+//! Answers made by this implementation itself: they stand in for the product until that exists.
 //! Free marks are taken by a fixed rule on the step's own figures, so that both choices come up.
 
 use crate::check::CELLS_SHORT;
-use crate::interface::{Answer, PeriodAnswer};
-use crate::levels::{Mark, Period, Rounded, Workings, PERIODS, SILENT_CELL};
+use crate::entitlement::{in_period, judged, Level, Request, ALTERED_AFTER, ALTERED_BEFORE, OTHER_AFTER, OTHER_BEFORE};
+use crate::interface::{Answer, Combined, EntitlementAnswer, EntitlementPeriod, PeriodAnswer};
+use crate::levels::{total_of, Mark, Period, Rounded, Workings, PERIODS, SILENT_CELL};
 use crate::reader::{read, Refusal};
 use crate::study::{Segment, Study};
+
+/// Cells that are enough for every study.
+const MOST_CELLS: usize = 192;
 
 fn taken(rounded: &Rounded, if_free: bool) -> bool {
     match rounded.mark {
@@ -23,7 +27,7 @@ fn ground_mark(segment: &Segment, rounded: &Rounded, turned: bool) -> bool {
 
 fn period_answer(period: Period, workings: &Workings, marks: &[bool], cells: &[i32], turned: bool) -> PeriodAnswer {
     let levels: Vec<i64> = cells.iter().filter(|&&cell| cell != SILENT_CELL).map(|&cell| cell as i64).collect();
-    let Some(total) = crate::levels::total_of(levels.iter().copied()) else {
+    let Some(total) = total_of(levels.iter().copied()) else {
         return PeriodAnswer::SILENT;
     };
     let total_mark = taken(&total, (levels.iter().sum::<i64>() % 2 == 0) != turned);
@@ -65,6 +69,44 @@ pub fn levels(text: &[u8], cells: &mut [i32], turned: bool) -> Answer {
     }
 }
 
+fn combined(one: Level, other: Level, turned: bool) -> Combined {
+    let levels: Vec<i64> = [one, other].into_iter().flatten().collect();
+    let Some(total) = total_of(levels.iter().copied()) else {
+        return Combined::SILENT;
+    };
+    let mark = taken(&total, (levels.iter().sum::<i64>() % 2 == 0) != turned);
+    Combined { silent: 0, level: total.figure(mark) as i32, close: mark as u8 }
+}
+
+fn entitlement_period(period: Period, levels: [Level; 4], turned: bool) -> EntitlementPeriod {
+    let prevailing = combined(levels[ALTERED_BEFORE], levels[OTHER_BEFORE], turned);
+    let relevant = combined(levels[ALTERED_AFTER], levels[OTHER_AFTER], turned);
+    judged(period, prevailing, relevant, levels[OTHER_AFTER])
+}
+
+pub fn entitlement(request: &Request, turned: bool) -> EntitlementAnswer {
+    let mut reported = [[None; 2]; 4];
+    for (set, lines) in request.iter().enumerate().filter(|(_, lines)| !lines.empty) {
+        let answer = levels(lines.text, &mut [0; MOST_CELLS], turned);
+        if answer.refusal != 0 {
+            let refusal = Refusal { number: answer.refusal, line: answer.line };
+            return EntitlementAnswer::refused(set as u32 + 1, refusal);
+        }
+        reported[set] = answer.periods().map(|period| period.figure());
+    }
+    let [day, night] = PERIODS.map(|period| entitlement_period(period, in_period(&reported, period), turned));
+    EntitlementAnswer { day, night, entitled: day.entitled | night.entitled, ..EntitlementAnswer::default() }
+}
+
+#[cfg(feature = "mock")]
+unsafe fn bytes<'a>(text: *const u8, length: usize) -> &'a [u8] {
+    if text.is_null() {
+        &[]
+    } else {
+        std::slice::from_raw_parts(text, length)
+    }
+}
+
 /// The product's function, answered by this implementation.
 ///
 /// # Safety
@@ -77,7 +119,36 @@ pub unsafe extern "C" fn railnoise_levels(
     cells: *mut i32,
     cell_count: usize,
 ) -> Answer {
-    let text = if text.is_null() { &[] } else { std::slice::from_raw_parts(text, text_length) };
     let cells = if cells.is_null() { &mut [] } else { std::slice::from_raw_parts_mut(cells, cell_count) };
-    levels(text, cells, false)
+    levels(bytes(text, text_length), cells, false)
+}
+
+/// The second function, likewise.
+///
+/// # Safety
+/// As in include/railnoise_requests.h: each pointer is null with length 0, or good for its length.
+#[cfg(feature = "mock")]
+#[no_mangle]
+pub unsafe extern "C" fn railnoise_entitlement(
+    altered_before: *const u8,
+    altered_before_length: usize,
+    altered_before_empty: bool,
+    altered_after: *const u8,
+    altered_after_length: usize,
+    altered_after_empty: bool,
+    other_before: *const u8,
+    other_before_length: usize,
+    other_before_empty: bool,
+    other_after: *const u8,
+    other_after_length: usize,
+    other_after_empty: bool,
+) -> EntitlementAnswer {
+    let lines = |text, length, empty| crate::entitlement::Lines { text: bytes(text, length), empty };
+    let request = [
+        lines(altered_before, altered_before_length, altered_before_empty),
+        lines(altered_after, altered_after_length, altered_after_empty),
+        lines(other_before, other_before_length, other_before_empty),
+        lines(other_after, other_after_length, other_after_empty),
+    ];
+    entitlement(&request, false)
 }

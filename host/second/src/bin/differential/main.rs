@@ -1,16 +1,20 @@
-//! Holds railnoise_levels, or the plain C program, against the second implementation on many texts.
+//! Holds railnoise_levels, or the plain C program, against the second implementation on many texts; then
+//! railnoise_entitlement on many requests of four texts.
 //!
-//! differential [--of product|plain|digits] [--only INDEX] [--dump] [--corpus DIRECTORY] SEED COUNT
+//! differential [--of product|plain|digits] [--only INDEX] [--case INDEX] [--dump] [--corpus DIRECTORY] SEED COUNT
 //!
-//! One summary line; exit 1 at the first difference, with its text. The plain program is not
-//! expected to agree: its misreadings are counted, and the exit is 0. --dump writes texts and
-//! answers for crosscheck.py, --corpus only writes the texts, as files for the fuzzer.
+//! One summary line for each function; exit 1 at the first difference, with its text or texts. --only tries
+//! one text alone, --case one request. The plain program is not expected to agree: its misreadings are counted,
+//! and the exit is 0. It has no requests. --dump writes texts and answers for crosscheck.py, --corpus only
+//! writes the texts, as files for the fuzzer.
+
+mod entitlement;
 
 use std::collections::{BTreeMap, HashMap};
 use std::io::Write;
 use std::path::{Path, PathBuf};
 use std::process::exit;
-use std::sync::atomic::{AtomicU64, Ordering};
+use std::sync::atomic::{AtomicBool, AtomicU64, Ordering};
 use std::time::Instant;
 
 use second::check::{check, Difference, Part, Report};
@@ -36,8 +40,14 @@ const PRODUCT: Option<Levels> = Some(railnoise_levels);
 #[cfg(not(product))]
 const PRODUCT: Option<Levels> = None;
 
-/// The text under trial, for the message of a crash.
+/// The text or request under trial, for the message of a crash.
 static CURRENT: AtomicU64 = AtomicU64::new(0);
+static IS_REQUEST: AtomicBool = AtomicBool::new(false);
+
+fn note_current(is_request: bool, index: u64) {
+    IS_REQUEST.store(is_request, Ordering::Relaxed);
+    CURRENT.store(index, Ordering::Relaxed);
+}
 
 /// Only calls that are safe in a signal handler.
 extern "C" fn crashed(_: i32) {
@@ -47,7 +57,10 @@ extern "C" fn crashed(_: i32) {
         *digit = b'0' + (rest % 10) as u8;
         rest /= 10;
     }
-    let message = b"differential: crash at text ";
+    let message: &[u8] = match IS_REQUEST.load(Ordering::Relaxed) {
+        false => b"differential: crash at text ",
+        true => b"differential: crash at entitlement case ",
+    };
     unsafe {
         write(2, message.as_ptr(), message.len());
         write(2, digits.as_ptr(), digits.len());
@@ -60,6 +73,7 @@ struct Options {
     /// The plain program's name and function, if one of its forms is tried and not the product.
     plain: Option<(&'static str, Levels)>,
     only: Option<u64>,
+    case: Option<u64>,
     dump: bool,
     corpus: Option<PathBuf>,
     seed: u64,
@@ -68,14 +82,16 @@ struct Options {
 
 fn usage() -> ! {
     eprintln!(
-        "usage: differential [--of product|plain|digits] [--only INDEX] [--dump] [--corpus DIRECTORY] SEED COUNT"
+        "usage: differential [--of product|plain|digits] [--only INDEX] [--case INDEX] [--dump] \
+         [--corpus DIRECTORY] SEED COUNT"
     );
     exit(2)
 }
 
 fn options() -> Options {
-    let mut options = Options { plain: None, only: None, dump: false, corpus: None, seed: 0, count: 0 };
+    let mut options = Options { plain: None, only: None, case: None, dump: false, corpus: None, seed: 0, count: 0 };
     let mut numbers = Vec::new();
+    let index = |word: Option<String>| word.and_then(|word| word.parse().ok()).unwrap_or_else(|| usage());
     let mut words = std::env::args().skip(1);
     while let Some(word) = words.next() {
         match word.as_str() {
@@ -85,7 +101,8 @@ fn options() -> Options {
                 Some("product") => {}
                 _ => usage(),
             },
-            "--only" => options.only = Some(words.next().and_then(|w| w.parse().ok()).unwrap_or_else(|| usage())),
+            "--only" => options.only = Some(index(words.next())),
+            "--case" => options.case = Some(index(words.next())),
             "--dump" => options.dump = true,
             "--corpus" => options.corpus = Some(words.next().unwrap_or_else(|| usage()).into()),
             _ => numbers.push(word.parse::<u64>().unwrap_or_else(|_| usage())),
@@ -262,35 +279,48 @@ fn write_corpus(options: &Options, directory: &Path) -> std::io::Result<()> {
         .try_for_each(|index| std::fs::write(directory.join(format!("text-{index}")), case(options.seed, index).text))
 }
 
+/// All texts, or the one that is asked for; gives the summary's lines.
+fn run(options: &Options, levels: Levels) -> Vec<String> {
+    let mut bench = Bench { levels, text: Guarded::new(1 << 17), cells: Guarded::new(1 << 14) };
+    let mut summary = Summary::default();
+    let start = Instant::now();
+    let range = options.only.map_or(0..options.count, |index| index..index + 1);
+    for index in range {
+        note_current(false, index);
+        try_text(options, &mut bench, index, &mut summary);
+    }
+    let mut lines = vec![summary.line(options, start.elapsed().as_secs_f64())];
+    lines.extend(options.plain.map(|(name, _)| plain_line(name, &summary)));
+    lines
+}
+
 fn main() {
     let options = options();
     if let Some(directory) = &options.corpus {
         return write_corpus(&options, directory).expect("corpus written");
     }
-    let levels = match (options.plain, PRODUCT) {
-        (Some((_, levels)), _) => levels,
-        (None, Some(levels)) => levels,
+    let (levels, entitlement) = match (options.plain, PRODUCT) {
+        (Some((_, levels)), _) => (levels, None),
+        (None, Some(levels)) => (levels, entitlement::PRODUCT),
         (None, None) => {
-            eprintln!("built without an archive: set RAILNOISE_ARCHIVE, or build with --features mock");
+            eprintln!(
+                "built without archives: set RAILNOISE_ARCHIVE and RAILNOISE_REQUESTS_ARCHIVE, or build with \
+                 --features mock"
+            );
             exit(2)
         }
     };
     for number in [4, 6, 7, 8, 11] {
         unsafe { signal(number, crashed) };
     }
-    let mut bench = Bench { levels, text: Guarded::new(1 << 17), cells: Guarded::new(1 << 14) };
-    let mut summary = Summary::default();
-    let start = Instant::now();
-    let range = options.only.map_or(0..options.count, |index| index..index + 1);
-    for index in range {
-        CURRENT.store(index, Ordering::Relaxed);
-        try_text(&options, &mut bench, index, &mut summary);
+    if options.case.is_none() {
+        let lines = run(&options, levels);
+        if options.dump {
+            return;
+        }
+        lines.iter().for_each(|line| println!("{line}"));
     }
-    if options.dump {
-        return;
-    }
-    println!("{}", summary.line(&options, start.elapsed().as_secs_f64()));
-    if let Some((name, _)) = options.plain {
-        println!("{}", plain_line(name, &summary));
+    if let (Some(entitlement), None) = (entitlement, options.only) {
+        println!("{}", entitlement::run(&options, entitlement, levels));
     }
 }
