@@ -25,7 +25,10 @@ TRAIN = re.compile(
     r" trains by day (?P<hours_day>\S+) trains by night (?P<hours_night>\S+) level by day (?P<day>\S+) level by night (?P<night>\S+)")
 RESULT = re.compile(r"(?P<period>day|night) (?P<level>\S+) (?P<close>\d+) (?P<met>yes|no)")
 REFUSED = re.compile(r"refused (?P<number>\d+) line (?P<line>\d+)")
-ADDED = re.compile(r"(?P<name>segment|train|levels) (?P<answer>accepted|refused \d+)")
+ADDED = re.compile(r"(?P<name>segment|train|levels|entitlement) (?P<answer>accepted|refused \d+)")
+CONDITIONS = re.compile(
+    r"(?P<period>day|night) reaches (?P<reaches>yes|no) rises (?P<rises>yes|no) contributes (?P<contributes>yes|no) entitled (?P<entitled>yes|no)")
+HOUSE = re.compile(r"house (?P<house>yes|no)")
 # What 10 log Q is above the trains step, in tenths.
 HOURS = {"day": 481, "night": 433}
 
@@ -119,6 +122,10 @@ def found_in(lines, text):
             found |= {"accepted": "no", "refused": f"{m['number']} {m['line']}"}
         elif m := ADDED.fullmatch(line):
             found[m["name"]] = m["answer"]
+        elif m := CONDITIONS.fullmatch(line):
+            found[m["period"]] = m.groupdict()
+        elif m := HOUSE.fullmatch(line):
+            found |= m.groupdict()
         elif line != "period level close met":
             sys.exit("not a line of a breakdown: " + line)
     return found

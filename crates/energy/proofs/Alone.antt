@@ -1,13 +1,13 @@
 -- A total lies less than 19.9 dB above its loudest level, and a level alone is its own total, unmarked.
 -- Assumes nothing.
-use mathlib.Core.Path.{_≡_, refl, sym, ap, ap₂, _∙_, subst}
+use mathlib.Core.Path.{_≡_, refl, sym, ap₂, _∙_, subst}
 use mathlib.Core.Bool.{Bool, false}
 use mathlib.Core.List.{List, [], _∷_}
 use Prim.Native.Nat.{ℕ, _+_, _-_, _≤_, _<_, zero-le}
 use native.Mathlib.Nat.{le-refl, le-antisymm}
 use native.Mathlib.Omega.{arith}
 use borrow.Author.Tests.{le-ltb}
-use lib.Dec.{ltb, leb, lit≤, lit<}
+use lib.Dec.{ltb, lit≤, lit<}
 use lib.IntN.{ℤ, pos, negsuc}
 use lib.Signed.{_≤ℤ_}
 use lib.ListN.{length}
@@ -15,10 +15,9 @@ use Rattle.decibel.specs.Round.{byMark}
 use Rattle.decibel.specs.declared.Level.{Level}
 use Rattle.decibel.specs.declared.Level.the-variants.{Silent, Figure}
 use Rattle.decibel.proofs.Ints.{add-is, from-parts, ints}
-use Rattle.energy.specs.declared.Total.{Total}
 use Rattle.energy.specs.Energy.{bareAt}
 use Rattle.energy.specs.Total.{energies, totalBy}
-use Rattle.energy.specs.Mark.{heightOf, loudestOf, weightOf, weighed, beginOf, endOf, passedOf, totalMark, totalOf}
+use Rattle.energy.specs.Mark.{heightOf, loudestOf, weighed, beginOf, endOf, passedOf, totalMark, totalOf}
 use Rattle.energy.specs.Private.{figureAt}
 use Rattle.energy.specs.Rising.{LevelsKept, none, next}
 use Rattle.energy.proofs.Weighing.{unit}

@@ -1,20 +1,16 @@
 -- The answer from four studies: 23, or what their levels give.
 -- Assumes nothing.
-use mathlib.Core.Path.{_≡_, refl, sym, ap, ap₂, _∙_, subst}
-use mathlib.Core.Bool.{Bool, true, false, _&&_, _||_}
-use mathlib.Core.List.{[], _∷_}
-use Prim.Native.Nat.{ℕ, _≤_}
+use mathlib.Core.Path.{_≡_, refl, sym, ap, _∙_, subst}
+use mathlib.Core.Bool.{_||_}
 use Rattle.figures.specs.declared.Period.{Period}
 use Rattle.figures.specs.declared.Period.the-variants.{Day, Night}
 use Rattle.figures.specs.declared.Refusal.{Refusal}
-use Rattle.figures.specs.declared.Refusal.the-variants.{NoEntry}
 use Rattle.figures.specs.declared.Check.{Check}
 use Rattle.figures.specs.declared.Check.the-variants.{Accepted, Refused}
 use Rattle.figures.specs.Refusal.{numberOf, checkNumber, unless, firstRefused}
 use Rattle.figures.specs.Rules.{lowestNumber}
 use Rattle.figures.proofs.Numbers.{unless-number}
 use Rattle.entitlement.specs.declared.Layout.{Layout}
-use Rattle.entitlement.specs.declared.Levels.{Levels}
 use Rattle.entitlement.specs.declared.Change.{Change}
 use Rattle.entitlement.specs.declared.PeriodEntitlement.{PeriodEntitlement}
 use Rattle.entitlement.specs.declared.Entitlement.{Entitlement}

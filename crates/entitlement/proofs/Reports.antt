@@ -1,14 +1,14 @@
 -- What a study with its mark reports, and that it is a level that working cells hold.
 -- Assumes nothing.
-use mathlib.Core.Path.{_≡_, refl, sym, ap, _∙_, subst}
+use mathlib.Core.Path.{_≡_, refl, sym, ap, _∙_}
 use mathlib.Core.Bool.{Bool, true, false, cond, _&&_}
 use mathlib.Core.List.{List, map}
-use Prim.Native.Nat.{ℕ, _+_, _≤_}
+use Prim.Native.Nat.{_+_, _≤_}
 use native.Mathlib.Omega.{arith}
 use borrow.Author.Tests.{le-leb}
-use lib.Dec.{leb, ltb}
+use lib.Dec.{leb}
 use lib.IntN.{ℤ, pos, negsuc}
-use lib.Signed.{ltZ, _≤ℤ_}
+use lib.Signed.{_≤ℤ_}
 use lib.ListN.{length}
 use Rattle.decibel.specs.declared.Level.{Level}
 use Rattle.decibel.specs.declared.Level.the-variants.{Silent, Figure}
@@ -16,8 +16,7 @@ use Rattle.energy.specs.Mark.{totalOf}
 use Rattle.energy.proofs.Order.{lt-false}
 use Rattle.energy.proofs.Alone.{total-lies}
 use Rattle.figures.specs.declared.Period.{Period}
-use Rattle.figures.specs.declared.Period.the-variants.{Day, Night}
-use Rattle.figures.specs.declared.Refusal.the-variants.{NoEntry, FewCells}
+use Rattle.figures.specs.declared.Refusal.the-variants.{NoEntry}
 use Rattle.figures.specs.declared.Check.{Check}
 use Rattle.figures.specs.declared.Check.the-variants.{Accepted, Refused}
 use Rattle.figures.specs.Refusal.{unless, firstRefused}
@@ -33,7 +32,6 @@ use Rattle.request.proofs.Answers.{answer-check}
 use Rattle.entitlement.specs.declared.Lines.{Lines}
 use Rattle.entitlement.specs.declared.Layout.{Layout}
 use Rattle.entitlement.specs.declared.LinesReport.{LinesReport}
-use Rattle.entitlement.specs.declared.LayoutReport.{LayoutReport}
 use Rattle.entitlement.specs.Entitlement.{reportedIn, levelsIn, isGiven, held, StudyAllowed}
 use Rattle.entitlement.specs.Private.{Few, Reports, LayoutReports}
 

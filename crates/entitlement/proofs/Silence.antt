@@ -1,8 +1,7 @@
 -- What silence means for a period, condition by condition, and that a study marked as empty is not read.
 -- Assumes nothing.
-use mathlib.Core.Path.{_≡_, refl, sym, ap, ap₂, _∙_, subst}
+use mathlib.Core.Path.{_≡_, refl, sym, subst}
 use mathlib.Core.Bool.{Bool, true, false, cond, _||_}
-use mathlib.Core.List.{List, [], _∷_}
 use Prim.Native.Nat.{ℕ}
 use native.Mathlib.Omega.{arith}
 use lib.Dec.{ltb}
@@ -12,7 +11,6 @@ use lib.ListN.{length}
 use Rattle.decibel.proofs.Ints.{ints}
 use Rattle.decibel.specs.declared.Level.{Level}
 use Rattle.decibel.specs.declared.Level.the-variants.{Silent, Figure}
-use Rattle.energy.specs.declared.Total.{Total}
 use Rattle.energy.specs.Total.{totalBy}
 use Rattle.energy.specs.Mark.{totalOf}
 use Rattle.energy.proofs.Order.{not-less}
@@ -83,8 +81,16 @@ levels-unread p x = rw (report-unread p (x .altered), report-unread p (x .other)
 unread : (before after : Layout) → entitlementOf before after ≡ entitlementOf (layoutAsRead before) (layoutAsRead after)
 unfolding entitlementOf entitlementCheck allGiven changeIn
 unread before after =
-    rw (given-unread (before .altered), given-unread (before .other), given-unread (after .altered), given-unread (after .other),
-    levels-unread Day before, levels-unread Day after, levels-unread Night before, levels-unread Night after)
+    rw (
+      given-unread (before .altered),
+      given-unread (before .other),
+      given-unread (after .altered),
+      given-unread (after .other),
+      levels-unread Day before,
+      levels-unread Day after,
+      levels-unread Night before,
+      levels-unread Night after,
+    )
 
 pub silence-means : SilenceMeans
 unfolding conditions exceeds metBy

@@ -1,7 +1,7 @@
 -- A period's prevailing and relevant level, from reported tenths, and the three conditions of paragraph 7 (02, L2; memorandum, paragraphs 7 and 8).
 -- Assumes nothing.
 use mathlib.Core.Bool.{Bool, true, false, _&&_}
-use mathlib.Core.List.{List, [], _∷_}
+use mathlib.Core.List.{[], _∷_}
 use lib.IntN.{pos, _+ℤ_}
 use lib.Signed.{leZ}
 use Rattle.decibel.specs.declared.Level.{Level}

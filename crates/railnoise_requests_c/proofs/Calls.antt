@@ -1,22 +1,18 @@
 -- The answer of a call: the first text that is refused ends it, and four that are not give the entitlement of their studies.
 -- Assumes nothing.
-use mathlib.Core.Path.{_≡_, refl, sym, ap, _∙_}
-use mathlib.Core.Bool.{Bool, true, _&&_}
+use mathlib.Core.Path.{_≡_, sym, ap, _∙_}
 use Prim.Native.Nat.{ℕ}
 use Rattle.figures.specs.declared.Period.the-variants.{Day, Night}
 use Rattle.figures.specs.declared.Refusal.{Refusal}
 use Rattle.figures.specs.declared.Check.the-variants.{Accepted, Refused}
 use Rattle.figures.specs.Refusal.{unless}
-use Rattle.study.specs.Add.{ours}
-use Rattle.text.specs.Text.{readText}
-use Rattle.entitlement.specs.declared.Layout.{Layout}
 use Rattle.entitlement.specs.declared.Entitlement.{Entitlement}
 use Rattle.entitlement.specs.Entitlement.{levelsIn, changeIn, allGiven, entitlementCheck, entitlementOf, refusedEntitlement, EntitledBy}
 use Rattle.entitlement.specs.Private.{LayoutFew}
 use Rattle.entitlement.proofs.Answers.{all-allowed, given-answer}
 use Rattle.railnoise_requests_c.specs.declared.TextReport.{TextReport}
 use Rattle.railnoise_requests_c.specs.declared.RailnoiseEntitlementAnswer.{RailnoiseEntitlementAnswer}
-use Rattle.railnoise_requests_c.specs.Entitlement.{exportedEntitlement, Source, sourceCheck, readAt, layoutOf, entitlementIn, EntitlementCalled}
+use Rattle.railnoise_requests_c.specs.Entitlement.{exportedEntitlement, Source, readAt, layoutOf, entitlementIn, EntitlementCalled}
 use Rattle.railnoise_requests_c.specs.Private.{TextReports, byDay, byNight}
 use Rattle.railnoise_requests_c.proofs.Texts.{lines-few}
 

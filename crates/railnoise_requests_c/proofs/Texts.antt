@@ -3,7 +3,7 @@
 use mathlib.Core.Path.{_≡_, refl, sym, ap, _∙_}
 use mathlib.Core.Bool.{Bool, true, false, cond}
 use mathlib.Core.List.{List}
-use Prim.Native.Nat.{ℕ, _+_, _≤_, _<_, zero-le}
+use Prim.Native.Nat.{ℕ, _≤_, _<_, zero-le}
 use native.Mathlib.Omega.{arith}
 use borrow.Author.Tests.{lt-ltb}
 use lib.Dec.{ltb}
@@ -14,14 +14,13 @@ use Rattle.figures.specs.declared.Refusal.{Refusal}
 use Rattle.figures.specs.declared.Check.{Check}
 use Rattle.figures.specs.declared.Check.the-variants.{Accepted, Refused}
 use Rattle.figures.proofs.Kept.{refused-not}
-use Rattle.study.specs.declared.Study.{Study}
 use Rattle.study.specs.Plan.{Plan, planOf, emptyStudy}
 use Rattle.study.specs.Add.{ours}
 use Rattle.study.specs.Run.{accepted}
 use Rattle.study.proofs.Plans.{accepted-held}
 use Rattle.study.proofs.Runs.{run-accepted}
 use Rattle.request.specs.Levels.{ownMarks}
-use Rattle.request.specs.Request.{levelsCheck, answerOf, answerBy, silentResult}
+use Rattle.request.specs.Request.{answerOf, answerBy, silentResult}
 use Rattle.request.proofs.Demand3.{request-answered, ours-fit}
 use Rattle.text.specs.declared.TextAnswer.{TextAnswer}
 use Rattle.text.specs.Text.{readText}

@@ -26,7 +26,7 @@ fn plain_train(row: i32) -> Train {
     }
 }
 
-fn with_segments(n: usize) -> Study {
+pub(crate) fn with_segments(n: usize) -> Study {
     let mut study = study::empty();
     for _ in 0..n {
         let added = study::add_segment(study, plain_segment(1000));
@@ -45,7 +45,7 @@ fn with_trains(start: Study, n: usize) -> Study {
 }
 
 // Writes what was refused, or that it was accepted.
-fn show(name: &[u8], check: Check) {
+pub(crate) fn show(name: &[u8], check: Check) {
     put(name);
     match check {
         Check::Accepted => put(b" accepted\n"),

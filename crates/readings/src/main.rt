@@ -1,7 +1,9 @@
-// Writes the breakdown of each study text of a list under its title, then what additions to a study are refused with.
+// Writes the breakdown of each study text of a list under its title, then what additions to a study are refused with, and entitlement over
+// studies.
 //
 // The list is standard input. A title is a line that begins with `#`; the study text after it ends at the next `#`.
 mod additions;
+mod entitlements;
 
 ghost use Prim.Native.Nat.{_≤_};
 ghost use lib.ListN.{length};
@@ -57,4 +59,5 @@ fn main() {
     let length = io::read_full(STDIN_FILENO, &mut list);
     show_each(&list[..length]);
     additions::show_each();
+    entitlements::show_each();
 }
