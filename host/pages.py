@@ -9,7 +9,7 @@
 - The vehicle rows of docs/PLANNER.md are those of the header, and the program gives each its figure.
 - The refused lines of docs/PLANNER.md, put into docs/studies/entry.txt, give the refusal beside them.
 - The study that docs/PLANNER.md explains is docs/studies/planner.txt.
-- The house that README.md and include/railnoise_requests.h show has the studies SIDING of docs/studies, and both give the same answer.
+- The house that README.md and include/railnoise_requests.h show has the studies HOUSE of docs/studies, and they and docs/PLANNER.md give the same answer.
 - Ranges and limits are those of the rules (host/ranges.py, which needs no program and can be run alone).
 """
 import re
@@ -22,7 +22,7 @@ ROOT = ranges.ROOT
 PLANNER = (ROOT / "docs" / "PLANNER.md").read_text()
 ENTRY = (ROOT / "docs" / "studies" / "entry.txt").read_text().splitlines()
 WORDS = "--words" in sys.argv[1:]
-SIDING = ["siding_before", "siding_after", "line"]
+HOUSE = ["terminal_before", "terminal_after", "line"]
 
 
 def blocks(page):
@@ -90,9 +90,9 @@ def study():
     yield "".join(f"    {line}\n" for line in text.splitlines()) in PLANNER, "docs/PLANNER.md does not show docs/studies/planner.txt"
 
 
-def siding():
+def house():
     readme, header = ((ROOT / name).read_text() for name in ["README.md", "include/railnoise_requests.h"])
-    for name in SIDING:
+    for name in HOUSE:
         text = (ROOT / "docs" / "studies" / f"{name}.txt").read_text()
         typed = '"{}"'.format(text.replace("\n", "\\n"))
         yield typed in readme and typed in header, f"README.md or the requests' header does not show docs/studies/{name}.txt"
@@ -100,6 +100,7 @@ def siding():
         yield levels in header, f"the requests' header does not give the levels of docs/studies/{name}.txt: {levels}"
     printed = re.findall(r"^```text\n(.*?)^```$", readme, re.M | re.S)[1]  # what README's second example prints
     yield "".join(f" *     {line}\n" for line in printed.splitlines()) in header, "the requests' header has another answer than README.md"
+    yield "".join(f"    {line}\n" for line in printed.splitlines()) in PLANNER, "docs/PLANNER.md has another answer than README.md"
 
 
-ranges.report("pages", [*commands(), *rows(), *refused_lines(), *study(), *siding(), *ranges.results()])
+ranges.report("pages", [*commands(), *rows(), *refused_lines(), *study(), *house(), *ranges.results()])

@@ -107,7 +107,7 @@
 #define RAILNOISE_H
 
 /* The version, in this one place: railnoise.sh --version and the pkg-config file take it from here. */
-#define RAILNOISE_VERSION "0.2.0"
+#define RAILNOISE_VERSION "0.3.0"
 
 #include <stdbool.h>
 #include <stddef.h>

@@ -52,22 +52,23 @@ typedef struct {
  * Each of the four sets of lines is a study's text with its length, as railnoise_levels takes it. One that
  * has no lines is marked as empty: the lines to be built, before the works; a house without other lines. It
  * is then silent and its text is not looked at: give null and 0. A set that is not marked needs a study of
- * at least one train entry, so an empty text by itself is no empty study: it is refusal 13 at line 1.
+ * at least one train entry, so an empty text by itself is no empty study: it is refusal 13 at line 1. So
+ * refusal 23, of a study without an entry, never comes from this function.
  *
  * In a period without trains a set's level is silent. Silent lies more than 1.0 dB below every figure and is
- * not above another silent one. So where the relevant level is silent, no condition holds; where only the
- * prevailing level is, the relevant one rises; where only the other lines after are, it contributes.
+ * not above another silent one. So where the relevant level is silent, no condition holds. Where it is a
+ * figure, it rises over a silent prevailing level and contributes beside silent other lines after.
  *
  * The texts are looked at in the order of the parameters; the first that is refused ends the request. No
  * cells are lent. Texts are only read, and one text may be given twice: other lines that stay as they are.
  * A null pointer goes only with length 0.
  *
- * A house that is entitled by night alone: a siding that had trains by day gets eight by night, and a line
- * beside it stays as it is.
+ * A house that is entitled by night alone: a terminal's track that had trains by day alone gets eight by
+ * night, and a line beside it stays as it is.
  *     altered before       "1 2\n2000 330 235 5 180 180 0 0 0 0 0 0 1 0 0\n20 50 30 24 0\n26 50 1 24 0\n"
  *     altered after        "1 2\n2000 330 235 5 180 180 0 0 0 0 0 0 1 0 0\n20 50 30 24 8\n26 50 1 24 8\n"
  *     other before, after  "1 1\n5000 330 235 5 180 180 0 0 0 0 0 0 1 0 0\n10 120 8 80 20\n"
- * Their levels by day and night: the siding's 57.6 and silent, then 57.6 and 57.6; the line's 63.0 and 61.8. So
+ * Their levels by day and night: the track's 57.6 and silent, then 57.6 and 57.6; the line's 63.0 and 61.8. So
  *     day: prevailing 64.1 dB, relevant 64.1 dB, reaches no, rises no, contributes yes: not entitled
  *     night: prevailing 61.8 dB, relevant 63.2 dB, reaches yes, rises yes, contributes yes: entitled
  *     the house is entitled

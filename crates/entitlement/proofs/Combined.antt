@@ -3,6 +3,7 @@
 use mathlib.Core.Path.{_≡_, refl, ap, _∙_, subst}
 use mathlib.Core.Bool.{Bool, true, false, cond}
 use mathlib.Core.List.{List, [], _∷_}
+use Prim.Native.Nat.{ℕ, _≤_}
 use native.Mathlib.Omega.{arith}
 use lib.IntN.{ℤ, pos, negsuc, _+ℤ_}
 use lib.Signed.{leZ, ltZ}
@@ -65,10 +66,10 @@ pub change-allowed : (c : Change) → ChangeAllowed (heldChange c)
 unfolding heldChange
 change-allowed c = record { prevailing = pair-allowed (c .before .altered) (c .before .other); relevant = pair-allowed (c .after .altered) (c .after .other) }
 
--- ---- a figure raised by 1.0 dB
+-- ---- a figure raised by some tenths
 
-pub wide-raised : (a : ℤ) → SFits w32 a → SFits w64 (a +ℤ pos 10)
-wide-raised a f = record { sfits = omega (arith, f .sfits, mag-most (a +ℤ pos 10), add-most a (pos 10), most-mag a) }
+pub wide-raised : (a : ℤ) (k : ℕ) → k ≤ 100 → SFits w32 a → SFits w64 (a +ℤ pos k)
+wide-raised a k h f = record { sfits = omega (arith, f .sfits, mag-most (a +ℤ pos k), add-most a (pos k), most-mag a) }
 
 pub figure-exceeds : {l o : Level} {f g : ℤ} {r : Bool} → l ≡ Figure f → o ≡ Figure g → r ≡ leZ (g +ℤ pos 10) f → r ≡ exceeds l o
 unfolding exceeds

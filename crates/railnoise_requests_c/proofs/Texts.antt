@@ -30,7 +30,7 @@ use Rattle.text.proofs.Runs.{text-is-run, accepted-text-is-run}
 use Rattle.text.proofs.Counted.{accepted-text-has-entry}
 use Rattle.entitlement.specs.Entitlement.{reportedIn, isGiven}
 use Rattle.entitlement.specs.Private.{Few}
-use Rattle.railnoise_requests_c.specs.Entitlement.{Source, sourceCheck, linesOf}
+use Rattle.railnoise_requests_c.specs.Entitlement.{Source, sourceCheck, linesFrom}
 use Rattle.railnoise_requests_c.specs.Private.{TextReports}
 
 -- ---- as many entries as a study may hold
@@ -44,8 +44,8 @@ text-few text =
     let made = text-is-run ours text in
     rw (made .1, run-accepted ours ours-fit (made .0)) (accepted-held ours (made .0) .total)
 
-pub lines-few : (s : Source) → Few (linesOf s)
-unfolding linesOf
+pub lines-few : (s : Source) → Few (linesFrom s)
+unfolding linesFrom
 lines-few s = go (s .empty)
   where
     go : (b : Bool) → length (planOf (cond b emptyStudy (readText ours (s .text) .study)) .entries) ≤ ours .entries
@@ -55,7 +55,7 @@ lines-few s = go (s .empty)
 -- ---- one text
 
 pub empty-text : (s : Source) → s .empty ≡ true → TextReports s (record { check = Accepted; line = 0; day = Silent; night = Silent })
-unfolding sourceCheck linesOf reportedIn isGiven
+unfolding sourceCheck linesFrom reportedIn isGiven
 empty-text s e = record { check = rw e; line = λ why h. refused-not (sym h); day = λ _. rw e; night = λ _. rw e; given = λ _. rw e }
 
 module _ (s : Source) (e : s .empty ≡ false) {before after : List ℤ} {r : TextAnswer} (q : TextAnswered (s .text) before after r) (room : length before ≡ 192) where
@@ -81,7 +81,7 @@ module _ (s : Source) (e : s .empty ≡ false) {before after : List ℤ} {r : Te
   refused-is why h = answer-is ∙ rw h
 
   pub text-reports : TextReports s (record { check = r .check; line = r .line; day = r .day .level; night = r .night .level })
-  unfolding sourceCheck linesOf reportedIn isGiven answerOf
+  unfolding sourceCheck linesFrom reportedIn isGiven answerOf
   text-reports = go (readText ours (s .text) .check) refl
     where
       go : (k : Check) → readText ours (s .text) .check ≡ k → TextReports s (record { check = r .check; line = r .line; day = r .day .level; night = r .night .level })

@@ -26,14 +26,14 @@ use Rattle.railnoise_requests_c.specs.declared.RailnoiseEntitlementAnswe
 abbrev pub exportedCombined : Total → RailnoiseCombined
 exportedCombined t = record { silent = isSilent (t .level); level = tenthsOf (t .level); close = t .close }
 
-unfoldable pub exportedPeriod : PeriodEntitlement → RailnoiseEntitlementPeriod
-exportedPeriod p =
+unfoldable pub exportedConditions : PeriodEntitlement → RailnoiseEntitlementPeriod
+exportedConditions p =
     record { prevailing = exportedCombined (p .prevailing); relevant = exportedCombined (p .relevant); reaches = p .reaches; rises = p .rises; contributes = p .contributes; entitled = p .entitled }
 
 -- an answer with the text that was refused and its line at fault, both 0 where none was
 unfoldable pub exportedEntitlement : Entitlement → ℕ → ℕ → RailnoiseEntitlementAnswer
 exportedEntitlement e text line =
-    record { refusal = checkNumber (e .check); text = text; line = lineValue line; day = exportedPeriod (e .day); night = exportedPeriod (e .night); entitled = e .entitled }
+    record { refusal = checkNumber (e .check); text = text; line = lineValue line; day = exportedConditions (e .day); night = exportedConditions (e .night); entitled = e .entitled }
 
 -- ---- four texts
 
@@ -49,19 +49,19 @@ source empty text = record { empty = empty; text = text }
 unfoldable pub sourceCheck : Source → Check
 sourceCheck s = cond (s .empty) Accepted (readText ours (s .text) .check)
 
-unfoldable pub linesOf : Source → Lines
-linesOf s = record { empty = s .empty; study = cond (s .empty) emptyStudy (readText ours (s .text) .study) }
+unfoldable pub linesFrom : Source → Lines
+linesFrom s = record { empty = s .empty; study = cond (s .empty) emptyStudy (readText ours (s .text) .study) }
 
 -- a text that is refused ends the request, with its refusal, its place and its line; else what comes after it
-abbrev pub unlessRefused : Check → ℕ → ℕ → RailnoiseEntitlementAnswer → RailnoiseEntitlementAnswer
-unlessRefused Accepted place line rest = rest
-unlessRefused (Refused why) place line rest = exportedEntitlement (refusedEntitlement why) place line
+abbrev pub endedBy : Check → ℕ → ℕ → RailnoiseEntitlementAnswer → RailnoiseEntitlementAnswer
+endedBy Accepted place line rest = rest
+endedBy (Refused why) place line rest = exportedEntitlement (refusedEntitlement why) place line
 
 unfoldable pub readAt : ℕ → Source → RailnoiseEntitlementAnswer → RailnoiseEntitlementAnswer
-readAt place s rest = unlessRefused (sourceCheck s) place (readText ours (s .text) .line) rest
+readAt place s rest = endedBy (sourceCheck s) place (readText ours (s .text) .line) rest
 
 abbrev pub layoutOf : Source → Source → Layout
-layoutOf altered other = record { altered = linesOf altered; other = linesOf other }
+layoutOf altered other = record { altered = linesFrom altered; other = linesFrom other }
 
 -- the altered lines before and after the works, the other lines before and after, in the order of C's parameters
 unfoldable pub entitlementIn : Source → Source → Source → Source → RailnoiseEntitlementAnswer

@@ -11,15 +11,15 @@ use Rattle.text.specs.Text.{readText}
 use Rattle.entitlement.specs.declared.Change.{Change}
 use Rattle.entitlement.specs.Entitlement.{reportedIn, isGiven}
 use Rattle.railnoise_requests_c.specs.declared.TextReport.{TextReport}
-use Rattle.railnoise_requests_c.specs.Entitlement.{Source, sourceCheck, linesOf}
+use Rattle.railnoise_requests_c.specs.Entitlement.{Source, sourceCheck, linesFrom}
 
 -- the refusal with its line; without one the level of each period, of lines that are given
 pub record TextReports (s : Source) (r : TextReport) : Type 0 where
   pub check : r .check ≡ sourceCheck s
   pub line : (why : Refusal) → r .check ≡ Refused why → r .line ≡ readText ours (s .text) .line
-  pub day : r .check ≡ Accepted → r .day ≡ reportedIn Day (linesOf s)
-  pub night : r .check ≡ Accepted → r .night ≡ reportedIn Night (linesOf s)
-  pub given : r .check ≡ Accepted → isGiven (linesOf s) ≡ true
+  pub day : r .check ≡ Accepted → r .day ≡ reportedIn Day (linesFrom s)
+  pub night : r .check ≡ Accepted → r .night ≡ reportedIn Night (linesFrom s)
+  pub given : r .check ≡ Accepted → isGiven (linesFrom s) ≡ true
 
 -- a period's levels: of the altered lines before and after, and of the other lines before and after
 abbrev pub changeOf : Level → Level → Level → Level → Change

@@ -60,45 +60,51 @@ fn layout(altered: Lines, other: Lines) -> Layout {
     Layout { altered, other }
 }
 
-pub(crate) fn show_each() {
-    let few = lines(1, false);
-    let many = lines(2000, false);
-    let without = lines(0, false);
-    let hidden = lines(2000, true);
-    let none = lines(0, true);
+// 23, for each of the four.
+fn show_without_entry(few: Lines, without: Lines) {
+    let both = layout(few, few);
     show_trial(
         b"# Entitlement: altered lines before without an entry\n",
         layout(without, few),
-        layout(many, few),
+        both,
     );
     show_trial(
         b"# Entitlement: altered lines after without an entry\n",
-        layout(few, few),
+        both,
         layout(without, few),
     );
     show_trial(
         b"# Entitlement: other lines before without an entry\n",
         layout(few, without),
-        layout(many, few),
+        both,
     );
     show_trial(
         b"# Entitlement: other lines after without an entry\n",
-        layout(few, few),
-        layout(many, without),
+        both,
+        layout(few, without),
     );
+}
+
+pub(crate) fn show_each() {
+    let few = lines(1, false);
+    let many = lines(2000, false);
+    let hidden = lines(2000, true);
+    let none = lines(0, true);
+    show_without_entry(few, lines(0, false));
     show_trial(
         b"# Entitlement: all four marked as empty\n",
         layout(none, hidden),
         layout(hidden, none),
     );
+    let both = layout(few, few);
     show_trial(
         b"# Entitlement: many trains after the works\n",
-        layout(few, few),
+        both,
         layout(many, few),
     );
     show_trial(
         b"# Entitlement: many trains marked as empty\n",
-        layout(few, few),
+        both,
         layout(hidden, few),
     );
     show_trial(
