@@ -135,7 +135,8 @@ typedef struct {
     uint32_t close; /* roundings that were taken as ties: marked ground steps of segments that have
                        trains in the period, plus one if the total itself is marked */
     bool met;       /* the level, to the nearest whole decibel with halves up, reaches the limit, 68 by
-                       day or 63 by night: the house comes into question for insulation */
+                       day or 63 by night: the house comes into question for insulation. Whether it is
+                       entitled, railnoise_entitlement says (railnoise_requests.h) */
 } railnoise_period;
 
 /* The answer to one request. */
@@ -149,9 +150,10 @@ typedef struct {
 /* Refusals. The first line of the text at fault decides. Within a line 12 comes before all else,
  * then the lowest number that applies. A text's refusal comes before 24.
  *
- * railnoise_levels never answers with 20 to 23: they belong to studies that are built addition by
- * addition, and a text that would lead to one of them is refused as 12 or 13. They have names and words
- * here so that every refusal of the product has both. */
+ * railnoise_levels never answers with 20 to 23, and railnoise_entitlement (railnoise_requests.h) with none
+ * above 13: 20 to 23 belong to studies that are built addition by addition, and a text that would lead to
+ * one of them is refused as 12 or 13. They have names and words here so that every refusal of the product
+ * has both. */
 enum {
     RAILNOISE_ANSWERED = 0,
     RAILNOISE_DISTANCE = 1,        /* d is not 1000 to 30000 cm */

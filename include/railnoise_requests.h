@@ -1,7 +1,8 @@
 /* Requests that are put to several studies of one window: whether a house is entitled to insulation.
  *
- * This header includes railnoise.h, which describes a study's text, its figures, periods and refusals. The
- * archive is librailnoise_requests_c.a; it stands on its own and can be linked beside librailnoise_c.a.
+ * This header includes railnoise.h, which describes a study's text, its figures, periods and refusals, with
+ * railnoise_refusal_words for these. The archive librailnoise_requests_c.a has the function below and needs
+ * nothing of librailnoise_c.a, which has railnoise_levels; a program that calls both links both, in any order.
  * What railnoise.h says of threads, memory and the C library holds here too; a call takes less than 16 kB
  * of stack.
  */
@@ -17,7 +18,7 @@ extern "C" {
 /* Two levels combined by Chart 9, from their reported tenths. A silent level adds nothing: beside one, the
  * other stands as it is and is not close. */
 typedef struct {
-    bool silent;   /* both levels are silent; then level is 0 and close is false */
+    bool silent;   /* both levels are silent, or the request is refused; then level is 0 and close is false */
     int32_t level; /* tenths of a decibel; it may be below zero */
     bool close;    /* this combination lay less than 0.002 dB from a tie and was taken as one, to the louder
                       tenth. It says nothing of the roundings within the studies: railnoise_levels does */
@@ -35,25 +36,28 @@ typedef struct {
     bool entitled;    /* all three hold */
 } railnoise_entitlement_period;
 
-/* The answer to one request. */
+/* The answer to one request. On a refusal all levels are silent and every bool after the line is false but
+ * for `silent`. */
 typedef struct {
     uint32_t refusal; /* 0 when answered, else the number by which a text was refused, 1 to 13 */
     uint32_t text;    /* which text was refused: 1 altered before, 2 altered after, 3 other before, 4 other
                          after; 0 when answered */
-    uint32_t line;    /* its refused line, counted from 1; 0 where there is none */
+    uint32_t line;    /* its refused line, counted from 1; 0 when answered, and for a text that is too long */
     railnoise_entitlement_period day;
-    railnoise_entitlement_period night; /* on a refusal all levels are silent, and no condition holds */
-    bool entitled;                      /* the house: by day or by night */
+    railnoise_entitlement_period night;
+    bool entitled; /* the house: by day or by night */
 } railnoise_entitlement_answer;
 
 /* Whether a house is entitled to insulation: altered lines and all other lines at its window, each before
  * and after the works.
  *
- * Each of the four sets of lines is a study's text with its length, as railnoise_levels takes it. One that
- * has no lines is marked as empty: the lines to be built, before the works; a house without other lines. It
- * is then silent and its text is not looked at: give null and 0. A set that is not marked needs a study of
- * at least one train entry, so an empty text by itself is no empty study: it is refusal 13 at line 1. So
- * refusal 23, of a study without an entry, never comes from this function.
+ * Each of the four sets of lines is a study's text with its length, as railnoise_levels takes it, all of the
+ * same window: nobody can check that here. A set that has no lines is marked as empty: the lines to be
+ * built, before the works; a house without other lines. It is then silent. Give null and 0 with the mark; a
+ * text that stands there all the same makes no difference, but its pointer must be good for its length.
+ *
+ * A set that is not marked needs a study of at least one train entry, so an empty text by itself is no empty
+ * study: it is refusal 13 at line 1. Refusal 23, of a study without an entry, never comes from this function.
  *
  * In a period without trains a set's level is silent. Silent lies more than 1.0 dB below every figure and is
  * not above another silent one. So where the relevant level is silent, no condition holds. Where it is a

@@ -31,6 +31,7 @@ ROOTS = {
     "accepted-text-is-run": "an accepted text's study is the run of its additions, so that demand 3 is said of it and of what is added to it",
     "Readings": "the starred readings",
     "SilenceMeans": "what silence and a mark of emptiness mean for entitlement",
+    "EntitlementCalls": "which refusals its C function gives, and that a marked text makes no difference",
     "total-rises": "a total never falls where levels rise",
     "cells-rise": "the same over working cells",
     # the formulas are believed by these: contracts state fences and tenths by whole numbers alone, and these say whose they are

@@ -32,7 +32,7 @@ use Rattle.request.proofs.Answers.{answer-check}
 use Rattle.entitlement.specs.declared.Lines.{Lines}
 use Rattle.entitlement.specs.declared.Layout.{Layout}
 use Rattle.entitlement.specs.declared.LinesReport.{LinesReport}
-use Rattle.entitlement.specs.Entitlement.{reportedIn, levelsIn, isGiven, held, StudyAllowed}
+use Rattle.entitlement.specs.Entitlement.{reportedIn, levelsIn, entriesKept, held, StudyAllowed}
 use Rattle.entitlement.specs.Private.{Few, Reports, LayoutReports}
 
 -- ---- a level that cells hold is held as it is
@@ -67,19 +67,19 @@ module _ (x : Lines) (few : Few x) where
   study-allowed = own-allowed (planOf (x .study)) few
 
   pub empty-reports : x .empty ≡ true → Reports x (record { check = Accepted; day = Silent; night = Silent })
-  unfolding isGiven unless reportedIn
+  unfolding entriesKept unless reportedIn
   empty-reports e = record { check = rw e; day = λ _. rw e; night = λ _. rw e; few = few }
 
   module _ (e : x .empty ≡ false) {before after : List ℤ} {r : Answer} (q : Answered (x .study) before after r) (room : length before ≡ 192) where
     -- so many cells are enough for every study
-    enough : levelsCheck (planOf (x .study)) (length before) ≡ unless (isGiven x) NoEntry Accepted
-    unfolding levelsCheck requestCheck isGiven unless
+    enough : levelsCheck (planOf (x .study)) (length before) ≡ unless (entriesKept x) NoEntry Accepted
+    unfolding levelsCheck requestCheck entriesKept unless
     enough = let n = length (planOf (x .study) .entries) in rw (room, e, le-leb (n + n) 192 (omega arith))
 
-    answer-is : r ≡ answerBy (unless (isGiven x) NoEntry Accepted) (planOf (x .study)) (ownMarks (planOf (x .study)))
+    answer-is : r ≡ answerBy (unless (entriesKept x) NoEntry Accepted) (planOf (x .study)) (ownMarks (planOf (x .study)))
     answer-is = rw enough at (q .by .answer)
 
-    check-is : r .check ≡ unless (isGiven x) NoEntry Accepted
+    check-is : r .check ≡ unless (entriesKept x) NoEntry Accepted
     check-is = ap (λ (a : Answer). a .check) answer-is ∙ answer-check _ _ _
 
     accepted-is : r .check ≡ Accepted → r ≡ answerBy Accepted (planOf (x .study)) (ownMarks (planOf (x .study)))
@@ -117,7 +117,7 @@ unfolding levelsIn
 layout-reports x {altered} {other} {check} a o e =
     let each : check ≡ Accepted → (altered .check ≡ Accepted) × (other .check ≡ Accepted) = λ h. both-accepted (altered .check) (other .check) (sym e ∙ h) in
     record {
-      check = checks-together (isGiven (x .altered)) (isGiven (x .other)) (a .check) (o .check) e;
+      check = checks-together (entriesKept (x .altered)) (entriesKept (x .other)) (a .check) (o .check) e;
       day = λ h. rw (a .day (each h .0), o .day (each h .1));
       night = λ h. rw (a .night (each h .0), o .night (each h .1));
       few = record { altered = a .few; other = o .few };

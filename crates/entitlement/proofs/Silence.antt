@@ -1,30 +1,39 @@
 -- What silence means for a period, condition by condition, and that a study marked as empty is not read.
 -- Assumes nothing.
-use mathlib.Core.Path.{_≡_, refl, sym, subst}
+use mathlib.Core.Path.{_≡_, refl, sym, ap, _∙_, subst}
+use mathlib.Core.List.{List}
 use mathlib.Core.Bool.{Bool, true, false, cond, _||_}
 use Prim.Native.Nat.{ℕ}
 use native.Mathlib.Omega.{arith}
 use lib.Dec.{ltb}
-use lib.IntN.{ℤ, pos, negsuc}
+use lib.IntN.{ℤ, pos, negsuc, _+ℤ_}
 use lib.Signed.{ltZ, _≤ℤ_}
 use lib.ListN.{length}
-use Rattle.decibel.proofs.Ints.{ints}
+use Rattle.decibel.proofs.Ints.{add-is, ints}
 use Rattle.decibel.specs.declared.Level.{Level}
 use Rattle.decibel.specs.declared.Level.the-variants.{Silent, Figure}
 use Rattle.energy.specs.Total.{totalBy}
 use Rattle.energy.specs.Mark.{totalOf}
-use Rattle.energy.proofs.Order.{not-less}
+use Rattle.energy.specs.declared.Total.{Total}
+use Rattle.energy.proofs.Order.{le-false, not-less}
 use Rattle.energy.proofs.Alone.{total-alone}
 use Rattle.figures.specs.declared.Period.{Period}
 use Rattle.figures.specs.declared.Period.the-variants.{Day, Night}
 use Rattle.request.specs.Levels.{figures, metBy, resultBy, ownMarks}
 use Rattle.study.specs.declared.Study.{Study}
 use Rattle.study.specs.Plan.{planOf, emptyStudy}
+use Rattle.study.specs.Add.{ours}
+use Rattle.study.specs.Run.{Addition, run}
+use Rattle.study.proofs.Plans.{accepted-held}
+use Rattle.study.proofs.Runs.{run-accepted}
+use Rattle.request.proofs.Demand3.{ours-fit}
 use Rattle.entitlement.specs.declared.Lines.{Lines}
 use Rattle.entitlement.specs.declared.Layout.{Layout}
-use Rattle.entitlement.specs.Conditions.{combined, exceeds, conditions}
-use Rattle.entitlement.specs.Entitlement.{reportedIn, levelsIn, changeIn, isGiven, allGiven, entitlementCheck, entitlementOf, held}
-use Rattle.entitlement.specs.Silence.{unmarked, asRead, layoutAsRead, SilenceMeans}
+use Rattle.entitlement.specs.declared.Levels.{Levels}
+use Rattle.entitlement.specs.Conditions.{combined, unmarked, exceeds, periodBy, periodOf}
+use Rattle.entitlement.specs.Entitlement.{reportedIn, levelsIn, changeIn, entriesKept, allKept, entitlementCheck, entitlementOf, held}
+use Rattle.entitlement.proofs.Reports.{reported-held}
+use Rattle.entitlement.specs.Silence.{asRead, layoutAsRead, SilenceMeans}
 
 -- ---- a level alone
 
@@ -54,6 +63,19 @@ both Silent (Figure g) e = no-figure _ (sym e)
 both (Figure f) Silent e = no-figure _ (sym e)
 both (Figure f) (Figure g) e = no-figure _ (sym e)
 
+-- a level does not exceed itself
+itself : (l : Level) → exceeds l l ≡ false
+unfolding exceeds
+itself Silent = refl
+itself (Figure f) = le-false (f +ℤ pos 10) f (omega (arith, ints, add-is f (pos 10)))
+
+nothing-added : (p : Period) (before : Levels) (l : Level) → held l ≡ l → periodOf p (record { before = before; after = record { altered = Silent; other = l } }) .contributes ≡ false
+unfolding periodOf periodBy
+nothing-added p before l h = ap (λ (t : Total). exceeds (t .level) l) (alone l h .1) ∙ itself l
+
+run-held : (p : Period) (empty : Bool) (additions : List Addition) → let l = reportedIn p (record { empty = empty; study = run ours additions }) in held l ≡ l
+run-held p empty additions = reported-held p _ (rw (run-accepted ours ours-fit additions) (accepted-held ours additions .total))
+
 -- ---- lines as they are read
 
 -- the mark decides before the study is looked at
@@ -66,8 +88,8 @@ report-unread : (p : Period) (x : Lines) → reportedIn p x ≡ reportedIn p (as
 unfolding reportedIn
 report-unread p x = unseen Silent (λ st. resultBy p (planOf st) (ownMarks (planOf st)) .level) (x .empty) (x .study)
 
-given-unread : (x : Lines) → isGiven x ≡ isGiven (asRead x)
-unfolding isGiven
+given-unread : (x : Lines) → entriesKept x ≡ entriesKept (asRead x)
+unfolding entriesKept
 given-unread x = go (x .empty)
   where
     go : (b : Bool) → (b || ltb 0 (length (planOf (x .study) .entries))) ≡ (b || ltb 0 (length (planOf (cond b emptyStudy (x .study)) .entries)))
@@ -79,7 +101,7 @@ unfolding levelsIn
 levels-unread p x = rw (report-unread p (x .altered), report-unread p (x .other))
 
 unread : (before after : Layout) → entitlementOf before after ≡ entitlementOf (layoutAsRead before) (layoutAsRead after)
-unfolding entitlementOf entitlementCheck allGiven changeIn
+unfolding entitlementOf entitlementCheck allKept changeIn
 unread before after =
     rw (
       given-unread (before .altered),
@@ -93,13 +115,15 @@ unread before after =
     )
 
 pub silence-means : SilenceMeans
-unfolding conditions exceeds metBy
+unfolding periodBy exceeds metBy
 silence-means =
     record {
+      reported-held = run-held;
       beside-silent = alone;
       both-silent = both;
       relevant-silent = λ p prevailing relevant other e. rw e;
       prevailing-silent = λ p prevailing relevant other f e g. rw (e, g);
       other-silent = λ p prevailing relevant f e. rw e;
+      altered-silent = nothing-added;
       empty-unread = unread;
     }

@@ -19,16 +19,20 @@ use Rattle.entitlement.specs.declared.PeriodEntitlement.{PeriodEntitleme
 unfoldable pub combined : Level → Level → Total
 combined first second = totalOf (figures (first ∷ second ∷ []))
 
--- "by at least 1.0", on tenths. "A silent level is more than 1.0 dB below every figure and exceeds no silent one"
+-- a level without a mark
+abbrev pub unmarked : Level → Total
+unmarked l = record { level = l; close = false }
+
+-- by at least 1.0 dB, on tenths. "A silent level is more than 1.0 dB below every figure and exceeds no silent one"
 unfoldable pub exceeds : Level → Level → Bool
 exceeds Silent other = false
 exceeds (Figure tenths) Silent = true
 exceeds (Figure tenths) (Figure other) = leZ (other +ℤ pos 10) tenths
 
 -- from the prevailing level, the relevant level, and the level of the other lines after the works: (i) the relevant level reaches the limit on whole decibels,
--- (ii) it exceeds the prevailing level, (iii) it exceeds the other lines after. "A period is entitled when all three hold"
-unfoldable pub conditions : Period → Total → Total → Level → PeriodEntitlement
-conditions p prevailing relevant otherAfter =
+-- (ii) it exceeds the prevailing level and (iii) the other lines after, each by at least 1.0 dB. "A period is entitled when all three hold"
+unfoldable pub periodBy : Period → Total → Total → Level → PeriodEntitlement
+periodBy p prevailing relevant otherAfter =
     let reaches = metBy p (relevant .level) in
     let rises = exceeds (relevant .level) (prevailing .level) in
     let contributes = exceeds (relevant .level) otherAfter in
@@ -37,7 +41,7 @@ conditions p prevailing relevant otherAfter =
 -- "The two before combine .. into the prevailing level, the two after into the relevant level"
 unfoldable pub periodOf : Period → Change → PeriodEntitlement
 periodOf p c =
-    conditions p (combined (c .before .altered) (c .before .other)) (combined (c .after .altered) (c .after .other)) (c .after .other)
+    periodBy p (combined (c .before .altered) (c .before .other)) (combined (c .after .altered) (c .after .other)) (c .after .other)
 
 -- 01 allows the mark of a combination
 abbrev pub CombinedAllowed : Levels → Type 0

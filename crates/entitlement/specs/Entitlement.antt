@@ -10,7 +10,6 @@ use lib.Signed.{ltZ}
 use lib.ListN.{length}
 use Rattle.decibel.specs.declared.Level.{Level}
 use Rattle.decibel.specs.declared.Level.the-variants.{Silent, Figure}
-use Rattle.energy.specs.declared.Total.{Total}
 use Rattle.figures.specs.declared.Period.{Period}
 use Rattle.figures.specs.declared.Period.the-variants.{Day, Night}
 use Rattle.figures.specs.declared.Refusal.{Refusal}
@@ -27,7 +26,7 @@ use Rattle.entitlement.specs.declared.Levels.{Levels}
 use Rattle.entitlement.specs.declared.Change.{Change}
 use Rattle.entitlement.specs.declared.PeriodEntitlement.{PeriodEntitlement}
 use Rattle.entitlement.specs.declared.Entitlement.{Entitlement}
-use Rattle.entitlement.specs.Conditions.{periodOf, ChangeAllowed}
+use Rattle.entitlement.specs.Conditions.{unmarked, periodOf, ChangeAllowed}
 
 -- ---- what four studies report
 
@@ -44,18 +43,15 @@ changeIn p before after = record { before = levelsIn p before; after = levelsIn 
 -- ---- the answer
 
 -- from both periods' levels: "the house when either period is"
-unfoldable pub entitledBy : Change → Change → Entitlement
-entitledBy day night =
+unfoldable pub entitlementBy : Change → Change → Entitlement
+entitlementBy day night =
     let byDay = periodOf Day day in
     let byNight = periodOf Night night in
     record { check = Accepted; day = byDay; night = byNight; entitled = byDay .entitled || byNight .entitled }
 
 -- a refused answer: every level silent and unmarked, and no condition holds
-abbrev pub silentTotal : Total
-silentTotal = record { level = Silent; close = false }
-
 abbrev pub noPeriod : PeriodEntitlement
-noPeriod = record { prevailing = silentTotal; relevant = silentTotal; reaches = false; rises = false; contributes = false; entitled = false }
+noPeriod = record { prevailing = unmarked Silent; relevant = unmarked Silent; reaches = false; rises = false; contributes = false; entitled = false }
 
 unfoldable pub refusedEntitlement : Refusal → Entitlement
 refusedEntitlement r = record { check = Refused r; day = noPeriod; night = noPeriod; entitled = false }
@@ -64,28 +60,29 @@ abbrev pub unlessRefused : Check → Entitlement → Entitlement
 unlessRefused Accepted answer = answer
 unlessRefused (Refused r) answer = refusedEntitlement r
 
--- marked as empty, or with an entry
-unfoldable pub isGiven : Lines → Bool
-isGiven x = x .empty || ltb 0 (length (planOf (x .study) .entries))
+-- whether the line of 23 is kept: marked as empty, or with an entry
+unfoldable pub entriesKept : Lines → Bool
+entriesKept x = x .empty || ltb 0 (length (planOf (x .study) .entries))
 
-unfoldable pub allGiven : Layout → Layout → Bool
-allGiven before after = (isGiven (before .altered) && isGiven (before .other)) && (isGiven (after .altered) && isGiven (after .other))
+unfoldable pub allKept : Layout → Layout → Bool
+allKept before after = (entriesKept (before .altered) && entriesKept (before .other)) && (entriesKept (after .altered) && entriesKept (after .other))
 
 -- "a study without an entry and not marked empty is 23"
 unfoldable pub entitlementCheck : Layout → Layout → Check
-entitlementCheck before after = unless (allGiven before after) NoEntry Accepted
+entitlementCheck before after = unless (allKept before after) NoEntry Accepted
 
 -- the same by 01's number
 unfoldable pub entitlementNumber : Layout → Layout → ℕ
-entitlementNumber before after = lowestNumber ((23, allGiven before after) ∷ [])
+entitlementNumber before after = lowestNumber ((23, allKept before after) ∷ [])
 
 -- the altered and the other lines before the works, and after them
 unfoldable pub entitlementOf : Layout → Layout → Entitlement
-entitlementOf before after = unlessRefused (entitlementCheck before after) (entitledBy (changeIn Day before after) (changeIn Night before after))
+entitlementOf before after = unlessRefused (entitlementCheck before after) (entitlementBy (changeIn Day before after) (changeIn Night before after))
 
 -- ---- what the functions ensure: the answer by the program's own marks, and that 01 allows these
 
--- a level as working cells (01's term) hold it: one below -200 dB is silent and one above 200 dB counts as that. No study reports such
+-- a level as the total hears it (`heard` of energy, which has the same bounds): one below -200 dB is silent and one above 200 dB counts as that.
+-- They are this library's bounds, and no study reports a level beyond them (`reported-held` of `SilenceMeans`)
 abbrev pub held : Level → Level
 held Silent = Silent
 held (Figure tenths) = cond (ltZ tenths (negsuc 1999)) Silent (Figure (cond (ltZ (pos 2000) tenths) (pos 2000) tenths))
@@ -97,8 +94,8 @@ unfoldable pub heldChange : Change → Change
 heldChange c = record { before = heldLevels (c .before); after = heldLevels (c .after) }
 
 -- of any levels
-pub record EntitledBy (day night : Change) (r : Entitlement) : Type 0 where
-  pub answer : r ≡ entitledBy (heldChange day) (heldChange night)
+pub record EntitlementAnsweredBy (day night : Change) (r : Entitlement) : Type 0 where
+  pub answer : r ≡ entitlementBy (heldChange day) (heldChange night)
   pub by-day : ChangeAllowed (heldChange day)
   pub by-night : ChangeAllowed (heldChange night)
 
@@ -111,12 +108,12 @@ pub record LayoutAllowed (x : Layout) : Type 0 where
   pub other : StudyAllowed (x .other)
 
 -- of all four, and of the combinations of what they report
-pub record EntitlementAllowed (before after : Layout) : Type 0 where
-  pub old : LayoutAllowed before
-  pub new : LayoutAllowed after
-  pub combinations : (p : Period) → ChangeAllowed (changeIn p before after)
+pub record EntitlementAllowed (earlier later : Layout) : Type 0 where
+  pub before : LayoutAllowed earlier
+  pub after : LayoutAllowed later
+  pub combinations : (p : Period) → ChangeAllowed (changeIn p earlier later)
 
 -- of any four studies, each with its mark
-pub record Entitled (before after : Layout) (r : Entitlement) : Type 0 where
+pub record EntitlementAnswered (before after : Layout) (r : Entitlement) : Type 0 where
   pub answer : r ≡ entitlementOf before after
   pub allowed : EntitlementAllowed before after

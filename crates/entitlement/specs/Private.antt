@@ -14,7 +14,7 @@ use Rattle.entitlement.specs.declared.Lines.{Lines}
 use Rattle.entitlement.specs.declared.Layout.{Layout}
 use Rattle.entitlement.specs.declared.LinesReport.{LinesReport}
 use Rattle.entitlement.specs.declared.LayoutReport.{LayoutReport}
-use Rattle.entitlement.specs.Entitlement.{reportedIn, levelsIn, isGiven}
+use Rattle.entitlement.specs.Entitlement.{reportedIn, levelsIn, entriesKept}
 
 -- as many entries as a study may hold
 abbrev pub Few : Lines → Type 0
@@ -26,13 +26,13 @@ pub record LayoutFew (x : Layout) : Type 0 where
 
 -- 23 or no refusal, and without one the level of each period
 pub record Reports (x : Lines) (r : LinesReport) : Type 0 where
-  pub check : r .check ≡ unless (isGiven x) NoEntry Accepted
+  pub check : r .check ≡ unless (entriesKept x) NoEntry Accepted
   pub day : r .check ≡ Accepted → r .day ≡ reportedIn Day x
   pub night : r .check ≡ Accepted → r .night ≡ reportedIn Night x
   pub few : Few x
 
 pub record LayoutReports (x : Layout) (r : LayoutReport) : Type 0 where
-  pub check : r .check ≡ unless (isGiven (x .altered) && isGiven (x .other)) NoEntry Accepted
+  pub check : r .check ≡ unless (entriesKept (x .altered) && entriesKept (x .other)) NoEntry Accepted
   pub day : r .check ≡ Accepted → r .day ≡ levelsIn Day x
   pub night : r .check ≡ Accepted → r .night ≡ levelsIn Night x
   pub few : LayoutFew x

@@ -6,7 +6,7 @@ ghost use lib.Signed.{leZ};
 ghost use Rattle.figures.specs.Refusal.{checkNumber};
 ghost use Rattle.request.specs.Levels.{cellOf};
 ghost use Rattle.entitlement.specs.Conditions.{combined, exceeds, periodOf};
-ghost use Rattle.entitlement.specs.Entitlement.{held, heldChange, refusedEntitlement, noPeriod, EntitledBy, Entitled, entitlementNumber};
+ghost use Rattle.entitlement.specs.Entitlement.{held, heldChange, refusedEntitlement, noPeriod, EntitlementAnsweredBy, EntitlementAnswered, entitlementNumber};
 ghost use Rattle.entitlement.specs.Private.{Reports, LayoutReports};
 use decibel::Level;
 use energy::Total;
@@ -169,9 +169,10 @@ fn period_of(period: Period, change: Change) -> PeriodEntitlement
     }
 }
 
-// Whether the house is entitled, from the levels that the four studies report by day and by night.
+// Whether the house is entitled, from the levels that the four studies report by day and by night. A level below -200 dB counts as
+// silent and one above 200 dB as that; no study reports such.
 pub fn entitlement_by(day: Change, night: Change) -> Entitlement
-    ensures { λ r. ⌜ EntitledBy day night r ⌝ }
+    ensures { λ r. ⌜ EntitlementAnsweredBy day night r ⌝ }
 {
     let by_day = period_of(Period::Day, day);
     let by_night = period_of(Period::Night, night);
@@ -267,7 +268,7 @@ fn layout_report_of(layout: Layout) -> LayoutReport
 
 // Whether the house is entitled, from the lines before the works and after them.
 pub fn entitlement_of(before: Layout, after: Layout) -> Entitlement
-    ensures answered { λ r. ⌜ Entitled before after r ⌝ }
+    ensures answered { λ r. ⌜ EntitlementAnswered before after r ⌝ }
     ensures number { λ r. ⌜ checkNumber (r .check) ≡ entitlementNumber before after ⌝ }
 {
     let old = layout_report_of(before);

@@ -7,14 +7,14 @@ use Rattle.figures.specs.declared.Refusal.{Refusal}
 use Rattle.figures.specs.declared.Check.the-variants.{Accepted, Refused}
 use Rattle.figures.specs.Refusal.{unless}
 use Rattle.entitlement.specs.declared.Entitlement.{Entitlement}
-use Rattle.entitlement.specs.Entitlement.{levelsIn, changeIn, allGiven, entitlementCheck, entitlementOf, refusedEntitlement, EntitledBy}
+use Rattle.entitlement.specs.Entitlement.{levelsIn, changeIn, allKept, entitlementCheck, entitlementOf, refusedEntitlement, EntitlementAnsweredBy}
 use Rattle.entitlement.specs.Private.{LayoutFew}
 use Rattle.entitlement.proofs.Answers.{all-allowed, given-answer}
 use Rattle.railnoise_requests_c.specs.declared.TextReport.{TextReport}
 use Rattle.railnoise_requests_c.specs.declared.RailnoiseEntitlementAnswer.{RailnoiseEntitlementAnswer}
-use Rattle.railnoise_requests_c.specs.Entitlement.{exportedEntitlement, Source, readAt, layoutOf, entitlementIn, EntitlementCalled}
+use Rattle.railnoise_requests_c.specs.Entitlement.{exportedEntitlement, Source, sourceCheck, readAt, layoutOf, entitlementIn, EntitlementCalled}
 use Rattle.railnoise_requests_c.specs.Private.{TextReports, byDay, byNight}
-use Rattle.railnoise_requests_c.proofs.Texts.{lines-few}
+use Rattle.railnoise_requests_c.proofs.Texts.{lines-few, accepted-kept}
 
 -- ---- one text
 
@@ -39,7 +39,12 @@ module _ (a b c d : Source) where
   abbrev answer : RailnoiseEntitlementAnswer
   answer = exportedEntitlement (entitlementOf (layoutOf a c) (layoutOf b d)) 0 0
 
-  pub called : {r : RailnoiseEntitlementAnswer} → r ≡ entitlementIn a b c d → EntitlementCalled a b c d r
+  -- four texts of which none is refused keep the line of 23
+  pub kept-all : sourceCheck a ≡ Accepted → sourceCheck b ≡ Accepted → sourceCheck c ≡ Accepted → sourceCheck d ≡ Accepted → entitlementCheck (layoutOf a c) (layoutOf b d) ≡ Accepted
+  unfolding entitlementCheck allKept unless
+  kept-all e f g h = rw (accepted-kept a e, accepted-kept b f, accepted-kept c g, accepted-kept d h)
+
+  called : {r : RailnoiseEntitlementAnswer} → r ≡ entitlementIn a b c d → EntitlementCalled a b c d r
   called q = record { answer = q; allowed = all-allowed (layoutOf a c) (layoutOf b d) (layout-few a c) (layout-few b d) }
 
   module _ {s : TextReport} (x : TextReports a s) where
@@ -74,14 +79,13 @@ module _ (a b c d : Source) where
 
                 module _ (fourth : v .check ≡ Accepted) where
                   all-given : entitlementCheck (layoutOf a c) (layoutOf b d) ≡ Accepted
-                  unfolding entitlementCheck allGiven unless
-                  all-given = rw (x .given first, y .given second, z .given third, w .given fourth)
+                  all-given = kept-all (sym (x .check) ∙ first) (sym (y .check) ∙ second) (sym (z .check) ∙ third) (sym (w .check) ∙ fourth)
 
-                  levels-are : {e : Entitlement} → EntitledBy (byDay s t u v) (byNight s t u v) e → EntitledBy (changeIn Day (layoutOf a c) (layoutOf b d)) (changeIn Night (layoutOf a c) (layoutOf b d)) e
+                  levels-are : {e : Entitlement} → EntitlementAnsweredBy (byDay s t u v) (byNight s t u v) e → EntitlementAnsweredBy (changeIn Day (layoutOf a c) (layoutOf b d)) (changeIn Night (layoutOf a c) (layoutOf b d)) e
                   unfolding changeIn levelsIn
                   levels-are q = rw (x .day first, y .day second, z .day third, w .day fourth, x .night first, y .night second, z .night third, w .night fourth) at q
 
-                  pub accepted-texts : {e : Entitlement} {r : RailnoiseEntitlementAnswer} → EntitledBy (byDay s t u v) (byNight s t u v) e → r ≡ exportedEntitlement e 0 0 → EntitlementCalled a b c d r
+                  pub accepted-texts : {e : Entitlement} {r : RailnoiseEntitlementAnswer} → EntitlementAnsweredBy (byDay s t u v) (byNight s t u v) e → r ≡ exportedEntitlement e 0 0 → EntitlementCalled a b c d r
                   accepted-texts q f =
                       let is = given-answer (layoutOf a c) (layoutOf b d) (layout-few a c) (layout-few b d) all-given (levels-are q) in
                       called (f ∙ ap (λ (k : Entitlement). exportedEntitlement k 0 0) is ∙ sym (read-on 4 w answer fourth) ∙ after-third)

@@ -1,7 +1,7 @@
 // The later requests for C, over whole texts.
 ghost use mathlib.Core.Path.{_≡_};
-ghost use Rattle.entitlement.specs.Entitlement.{refusedEntitlement, EntitledBy};
-ghost use Rattle.railnoise_requests_c.specs.Entitlement.{exportedCombined, exportedConditions, exportedEntitlement, source, EntitlementCalled};
+ghost use Rattle.entitlement.specs.Entitlement.{refusedEntitlement, EntitlementAnsweredBy};
+ghost use Rattle.railnoise_requests_c.specs.Entitlement.{exportedCombined, exportedEntitlementPeriod, exportedEntitlement, source, EntitlementCalled};
 ghost use Rattle.railnoise_requests_c.specs.Private.{TextReports, changeOf, byDay, byNight};
 use c_values::level_value;
 use c_values::line_value;
@@ -70,7 +70,7 @@ fn combined_of(total: Total) -> RailnoiseCombined
 }
 
 fn period_of(period: PeriodEntitlement) -> RailnoiseEntitlementPeriod
-    ensures { λ r. ⌜ r ≡ exportedConditions period ⌝ }
+    ensures { λ r. ⌜ r ≡ exportedEntitlementPeriod period ⌝ }
 {
     let prevailing = period.prevailing;
     let relevant = period.relevant;
@@ -159,7 +159,7 @@ fn entitled(
     third: TextReport,
     fourth: TextReport,
 ) -> Entitlement
-    ensures { λ r. ⌜ EntitledBy (byDay first second third fourth) (byNight first second third fourth) r ⌝ }
+    ensures { λ r. ⌜ EntitlementAnsweredBy (byDay first second third fourth) (byNight first second third fourth) r ⌝ }
 {
     let altered_before = first.day;
     let altered_after = second.day;
