@@ -1,6 +1,7 @@
 /* The two anchors for speed: what an engineer would write in an afternoon, with libm. Compiled as it
- * is, it is plain_levels and reads numbers with strtol; with DIGIT_LOOP defined it is digits_levels
- * and reads them with a loop of its own. They differ in read_number alone.
+ * is, it is plain_levels and plain_entitlement and reads numbers with strtol; with DIGIT_LOOP defined it
+ * is digits_levels and digits_entitlement and reads them with a loop of its own. They differ in
+ * read_number alone.
  * Doubles throughout and no care for ties, so both misread some studies; the differential program
  * counts how many. */
 #include "plain.h"
@@ -12,8 +13,10 @@
 
 #ifdef DIGIT_LOOP
 #define LEVELS digits_levels
+#define ENTITLEMENT digits_entitlement
 #else
 #define LEVELS plain_levels
+#define ENTITLEMENT plain_entitlement
 #endif
 
 #define MOST_SEGMENTS 24
@@ -255,6 +258,11 @@ static uint32_t read_study(const char *text, const char *end, study *s, uint32_t
     return text == end ? 0 : 13;
 }
 
+static bool reaches_limit(int level, int period)
+{
+    return floor(level / 10.0 + 0.5) >= (period == 0 ? 68.0 : 63.0);
+}
+
 static railnoise_period period_result(const study *s, int period, int32_t *cells)
 {
     railnoise_period result = { true, 0, 0, false };
@@ -278,7 +286,7 @@ static railnoise_period period_result(const study *s, int period, int32_t *cells
         return result;
     result.level = close_tenth(10.0 * log10(sum), &close);
     result.close += close;
-    result.met = floor(result.level / 10.0 + 0.5) >= (period == 0 ? 68.0 : 63.0);
+    result.met = reaches_limit(result.level, period);
     return result;
 }
 
@@ -302,5 +310,59 @@ railnoise_answer LEVELS(const uint8_t *text, size_t text_length, int32_t *cells,
     }
     answer.day = period_result(&s, 0, cells);
     answer.night = period_result(&s, 1, cells + s.entry_count);
+    return answer;
+}
+
+/* The four sets of lines, in the order of the parameters. */
+enum { ALTERED_BEFORE, ALTERED_AFTER, OTHER_BEFORE, OTHER_AFTER, SETS };
+
+/* Chart 9; a silent level adds nothing. */
+static railnoise_combined combine(railnoise_period a, railnoise_period b)
+{
+    railnoise_combined sum = { a.silent && b.silent, a.silent ? b.level : a.level, false };
+    if (!a.silent && !b.silent)
+        sum.level = close_tenth(10.0 * log10(pow(10.0, a.level / 100.0) + pow(10.0, b.level / 100.0)), &sum.close);
+    return sum;
+}
+
+static railnoise_entitlement_period conditions(const railnoise_period *of, int period)
+{
+    railnoise_entitlement_period result = { combine(of[ALTERED_BEFORE], of[OTHER_BEFORE]),
+                                            combine(of[ALTERED_AFTER], of[OTHER_AFTER]), false, false, false, false };
+    int32_t level = result.relevant.level;
+    if (result.relevant.silent)
+        return result;
+    result.reaches = reaches_limit(level, period);
+    result.rises = result.prevailing.silent || level >= result.prevailing.level + 10;
+    result.contributes = of[OTHER_AFTER].silent || level >= of[OTHER_AFTER].level + 10;
+    result.entitled = result.reaches && result.rises && result.contributes;
+    return result;
+}
+
+railnoise_entitlement_answer ENTITLEMENT(SET(altered_before), SET(altered_after), SET(other_before), SET(other_after))
+{
+    const uint8_t *texts[SETS] = { altered_before, altered_after, other_before, other_after };
+    size_t lengths[SETS] = { altered_before_length, altered_after_length, other_before_length, other_after_length };
+    bool empty[SETS] = { altered_before_empty, altered_after_empty, other_before_empty, other_after_empty };
+    railnoise_entitlement_period nothing = { { true, 0, false }, { true, 0, false }, false, false, false, false };
+    railnoise_entitlement_answer answer = { 0, 0, 0, nothing, nothing, false };
+    railnoise_period day[SETS], night[SETS];
+    int32_t cells[RAILNOISE_MOST_CELLS];
+    for (uint32_t i = 0; i < SETS; i++) {
+        railnoise_answer levels = { 0, 0, { true, 0, 0, false }, { true, 0, 0, false } };
+        if (!empty[i])
+            levels = LEVELS(texts[i], lengths[i], cells, RAILNOISE_MOST_CELLS);
+        if (levels.refusal) {
+            answer.refusal = levels.refusal;
+            answer.text = i + 1;
+            answer.line = levels.line;
+            return answer;
+        }
+        day[i] = levels.day;
+        night[i] = levels.night;
+    }
+    answer.day = conditions(day, 0);
+    answer.night = conditions(night, 1);
+    answer.entitled = answer.day.entitled || answer.night.entitled;
     return answer;
 }

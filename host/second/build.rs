@@ -13,7 +13,9 @@ fn link_plain(name: &str, flag: &str) {
     let include = here.join("../../include");
     let object = PathBuf::from(env::var("OUT_DIR").expect("set by cargo")).join(name);
     println!("cargo:rerun-if-changed={}", source.display());
-    println!("cargo:rerun-if-changed={}", include.join("railnoise.h").display());
+    for header in ["railnoise.h", "railnoise_requests.h"] {
+        println!("cargo:rerun-if-changed={}", include.join(header).display());
+    }
     let status = Command::new("gcc")
         .args(["-std=c11", "-O2", "-Wall", "-Wextra", "-Werror", "-fPIC", flag, "-c", "-I"])
         .args([&include, Path::new("-o"), &object, &source])
