@@ -1,12 +1,12 @@
 #!/usr/bin/env python3
-"""Holds the counts of docs/COST.md, and the stack of README.md and the header, against a run of host/bench.sh.
+"""Holds the counts of docs/COST.md, and the stack of README.md and the headers, against a run of host/bench.sh.
 
     host/cost.py [ARCHIVE]
 
-- Instructions of a call, by study and by size, the stack, and how often the plain program misreads: each stated count lies within
-  5 in 100 of the run's. They are the same from run to run on one machine, but the C library copies by what the processor offers.
+- Instructions of a call, by study, by size and by request, the stack, and how often the plain program misreads: each stated count lies
+  within 5 in 100 of the run's. They are the same from run to run on one machine, but the C library copies by what the processor offers.
 - A stated ratio is that of the stated counts.
-- A call takes less stack than README.md and the header say.
+- A call takes less stack than README.md and the header of its function say.
 Times are not compared.
 """
 import pathlib
@@ -24,14 +24,15 @@ def count(text):
 
 
 def tables(written):
-    """The tables of a run, by the first word of their heads: each row's numbers, with its name first."""
+    """The tables of a run, by the first word of their heads; the requests' by that of the table above too: each row's numbers, with
+    its name first."""
     found, head = {}, None
     for line in written.splitlines():
         words = line.split()
         if not words or line.startswith("#"):
             head = None
-        elif words[0] in ("instr", "entries", "segments", "stack"):
-            head = words[0]
+        elif words[0] in ("instr", "entries", "segments", "stack", "request"):
+            head = f"{head} request" if words[0] == "request" else words[0]
             found[head] = []
         elif head:
             found[head].append(words)
@@ -65,17 +66,23 @@ def growth(rows, unit):
         yield from counted(about, rf"\| {about} " + rf"\| {NUMBER} " * 3, [int(text) for text in after[4:]])
 
 
-def stack(rows):
-    used = {name: (int(product), int(plain)) for name, product, plain, _ in rows}
-    others = [used[name] for name in used if name != "refused"]
-    most = max(product for product, _ in used.values())
+def most(rows):
+    """The most stack of a call, the product's and plain's."""
+    return [max(int(row[column]) for row in rows) for column in (1, 2)]
+
+
+def stack(studies, requests):
+    refused = [row for row in studies if row[0] == "refused"]
+    product, plain = most([row for row in studies if row[0] != "refused"])
     pattern = rf"painted stack: {NUMBER} bytes, and {NUMBER} on the refused text; plain {NUMBER}\."
-    run = [max(product for product, _ in others), used["refused"][0], max(plain for _, plain in others)]
-    yield from counted("stack", pattern, run)
-    for page in ("README.md", "include/railnoise.h"):
+    yield from counted("stack", pattern, [product, most(refused)[0], plain])
+    yield from counted("stack, requests", rf"painted stack: {NUMBER} bytes; plain {NUMBER}\.", most(requests))
+    # what README.md says is said of the first function
+    for page, rows in (("README.md", studies), ("include/railnoise.h", studies), ("include/railnoise_requests.h", requests)):
         text = re.sub(r"\s[\s*]*", " ", (ROOT / page).read_text())
         limits = [1000 * int(kilobytes) for kilobytes in re.findall(r"call takes less than (\d+) kB of stack", text)]
-        yield len(limits) == 1 and most < limits[0], f"stack, {page}: less than {limits} bytes stated, {most} in the run"
+        used = most(rows)[0]
+        yield len(limits) == 1 and used < limits[0], f"stack, {page}: less than {limits} bytes stated, {used} in the run"
 
 
 def misread(written):
@@ -92,9 +99,10 @@ def main():
     found = tables(run.stdout)
     checks = [
         *instructions(found["instr"]),
+        *instructions(found["instr request"]),
         *growth(found["entries"], "a further entry"),
         *growth(found["segments"], "a further segment with 4 entries"),
-        *stack(found["stack"]),
+        *stack(found["stack"], found["stack request"]),
         *misread(run.stdout),
     ]
     wrong = [about for right, about in checks if not right]

@@ -3,8 +3,8 @@
  * This header includes railnoise.h, which describes a study's text, its figures, periods and refusals, with
  * railnoise_refusal_words for these. The archive librailnoise_requests_c.a has the function below and needs
  * nothing of librailnoise_c.a, which has railnoise_levels; a program that calls both links both, in any order.
- * What railnoise.h says of threads, memory and the C library holds here too; a call takes less than 16 kB
- * of stack.
+ * What railnoise.h says of threads, memory and the C library holds here too; a call takes less than 8 kB of
+ * stack.
  */
 #ifndef RAILNOISE_REQUESTS_H
 #define RAILNOISE_REQUESTS_H

@@ -1,8 +1,11 @@
-/* Speed and stack of railnoise_levels beside the plain program's two forms.
+/* Speed and stack of railnoise_levels and railnoise_entitlement beside the plain program's two forms.
  *
- *   bench time [ROUNDS]                          nanoseconds of one call, by study, and the product's ratios
- *   bench call product|plain|digits STUDY COUNT  COUNT calls, for an instruction counter
- *   bench stack                                  bytes of stack that one call reaches
+ *   bench check                                nothing but what each of them does first: all give the same answers
+ *   bench time [ROUNDS]                        nanoseconds of one call, by row, and the product's ratios
+ *   bench call product|plain|digits ROW COUNT  COUNT calls, for an instruction counter
+ *   bench stack                                bytes of stack that one call reaches
+ *
+ * A row is a study, which is put to railnoise_levels, or a request, which is put to railnoise_entitlement.
  */
 #define _GNU_SOURCE
 #include "plain.h"
@@ -17,14 +20,36 @@
 
 typedef railnoise_answer levels_function(const uint8_t *, size_t, int32_t *, size_t);
 
-enum { PRODUCT, PLAIN, DIGITS, PROGRAMS };
+static railnoise_answer no_levels(const uint8_t *text, size_t text_length, int32_t *cells, size_t cell_count)
+{
+    (void)text, (void)text_length, (void)cells, (void)cell_count;
+    return (railnoise_answer){ 0, 0, { true, 0, 0, false }, { true, 0, 0, false } };
+}
+
+#define UNUSED(name) (void)name, (void)name##_length, (void)name##_empty
+static railnoise_entitlement_answer no_entitlement(SET(altered_before), SET(altered_after), SET(other_before),
+                                                   SET(other_after))
+{
+    UNUSED(altered_before), UNUSED(altered_after), UNUSED(other_before), UNUSED(other_after);
+    return (railnoise_entitlement_answer){ .refusal = 0 };
+}
+
+/* The last does nothing: the stack that its call reaches is taken off the others'. */
+enum { PRODUCT, PLAIN, DIGITS, PROGRAMS, NOTHING = PROGRAMS };
 static const struct {
     const char *name;
     levels_function *levels;
-} programs[PROGRAMS] = { { "product", railnoise_levels }, { "plain", plain_levels }, { "digits", digits_levels } };
+    entitlement_function *entitlement;
+} programs[] = {
+    [PRODUCT] = { "product", railnoise_levels, railnoise_entitlement },
+    [PLAIN] = { "plain", plain_levels, plain_entitlement },
+    [DIGITS] = { "digits", digits_levels, digits_entitlement },
+    [NOTHING] = { "nothing", no_levels, no_entitlement },
+};
 
-/* The rows of the tables, and then the sizes, which repeat six segments so that only their number differs. */
-enum { ONE, SAMPLE, EIGHT, FULL, REFUSED, ROWS, STUDIES = ROWS + 5 };
+/* The rows of the tables, and then the sizes, which repeat six segments so that only their number differs; last
+ * those that only requests have. */
+enum { ONE, SAMPLE, EIGHT, FULL, REFUSED, ROWS, SIDING_BEFORE = ROWS + 5, SIDING_AFTER, LINE_BESIDE, STUDIES };
 static const struct {
     const char *name;
     int segments, entries, last_speed, different;
@@ -39,9 +64,25 @@ static const struct {
     { "24x4", 24, 4, 150, 6 },
     { "6x4", 6, 4, 150, 6 },
     { "12x4", 12, 4, 150, 6 },
+    [SIDING_BEFORE] = { "siding_before", 0, 0, 0, 0 },
+    [SIDING_AFTER] = { "siding_after", 0, 0, 0, 0 },
+    [LINE_BESIDE] = { "line_beside", 0, 0, 0, 0 },
 };
-static char texts[STUDIES][RAILNOISE_TEXT_LIMIT];
-static size_t lengths[STUDIES];
+
+/* A request has the studies of its four sets in the order of the parameters, NONE for one marked as empty. As a
+ * row it is counted on from the studies. */
+enum { NIGHT, NEW, FULL4, REFUSED4, REQUESTS, NONE = STUDIES };
+static const struct {
+    const char *name;
+    int sets[4];
+} requests[REQUESTS] = {
+    [NIGHT] = { "night", { SIDING_BEFORE, SIDING_AFTER, LINE_BESIDE, LINE_BESIDE } },
+    [NEW] = { "new", { NONE, SIDING_AFTER, NONE, LINE_BESIDE } },
+    [FULL4] = { "full4", { FULL, FULL, FULL, FULL } },
+    [REFUSED4] = { "refused4", { FULL, FULL, FULL, REFUSED } },
+};
+static char texts[STUDIES + 1][RAILNOISE_TEXT_LIMIT];
+static size_t lengths[STUDIES + 1];
 
 /* So many segments, every second one screened, with so many trains each; the last train's speed as given.
  * After so many different segments the first ones come again. The first screened one has a far wall of
@@ -67,33 +108,92 @@ static size_t write_study(char *text, int segments, int entries, int last_speed,
     return (size_t)(at - text);
 }
 
+static void put_typed(int study, const char *text)
+{
+    lengths[study] = strlen(text);
+    memcpy(texts[study], text, lengths[study]);
+}
+
 static void write_texts(void)
 {
     for (int i = 0; i < STUDIES; i++)
         lengths[i] = write_study(texts[i], studies[i].segments, studies[i].entries, studies[i].last_speed,
                                  studies[i].different);
-    memcpy(texts[SAMPLE], sample, sizeof sample - 1);
-    lengths[SAMPLE] = sizeof sample - 1;
+    put_typed(SAMPLE, sample);
+    put_typed(SIDING_BEFORE, siding_before);
+    put_typed(SIDING_AFTER, siding_after);
+    put_typed(LINE_BESIDE, line_beside);
 }
 
-static railnoise_answer call(levels_function *levels, int study)
+static railnoise_answer ask_levels(levels_function *levels, int study)
 {
     int32_t cells[RAILNOISE_MOST_CELLS];
     return levels((const uint8_t *)texts[study], lengths[study], cells, RAILNOISE_MOST_CELLS);
 }
 
-/* What the bench rests on: one text is refused, at its last line; on the others all give the same levels. */
-static void check_answers(levels_function *levels)
+#define TEXT_OF(set) (const uint8_t *)texts[set], lengths[set], (set) == NONE
+static railnoise_entitlement_answer ask_entitlement(entitlement_function *entitlement, int request)
 {
-    for (int i = 0; i < STUDIES; i++) {
-        railnoise_answer answer = call(levels, i), product = call(railnoise_levels, i);
-        if (answer.refusal != (i == REFUSED ? 9 : 0) || answer.line != (i == REFUSED ? 121 : 0) ||
-            (i == SAMPLE && answer.day.level != 629) || answer.day.level != product.day.level ||
-            answer.night.level != product.night.level) {
-            fprintf(stderr, "bench: unexpected answer to %s\n", studies[i].name);
+    const int *sets = requests[request].sets;
+    return entitlement(TEXT_OF(sets[0]), TEXT_OF(sets[1]), TEXT_OF(sets[2]), TEXT_OF(sets[3]));
+}
+
+static const char *row_name(int row)
+{
+    return row < STUDIES ? studies[row].name : requests[row - STUDIES].name;
+}
+
+static void call(int program, int row)
+{
+    if (row < STUDIES)
+        ask_levels(programs[program].levels, row);
+    else
+        ask_entitlement(programs[program].entitlement, row - STUDIES);
+}
+
+/* One text is refused, at its last line; on the others all give the same levels. */
+static bool study_expected(levels_function *levels, int study)
+{
+    railnoise_answer answer = ask_levels(levels, study), product = ask_levels(railnoise_levels, study);
+    return answer.refusal == (study == REFUSED ? 9 : 0) && answer.line == (study == REFUSED ? 121 : 0) &&
+           (study != SAMPLE || answer.day.level == 629) && answer.day.level == product.day.level &&
+           answer.night.level == product.night.level;
+}
+
+static bool same_level(railnoise_combined a, railnoise_combined b)
+{
+    return a.silent == b.silent && a.level == b.level && a.close == b.close;
+}
+
+static bool same_period(railnoise_entitlement_period a, railnoise_entitlement_period b)
+{
+    return same_level(a.prevailing, b.prevailing) && same_level(a.relevant, b.relevant) && a.reaches == b.reaches &&
+           a.rises == b.rises && a.contributes == b.contributes && a.entitled == b.entitled;
+}
+
+/* One request is refused, at its fourth text's last line; one house is entitled by night alone; all answers are
+ * the same. */
+static bool request_expected(entitlement_function *entitlement, int request)
+{
+    railnoise_entitlement_answer answer = ask_entitlement(entitlement, request);
+    railnoise_entitlement_answer product = ask_entitlement(railnoise_entitlement, request);
+    bool refused = request == REFUSED4;
+    return answer.refusal == (refused ? 9 : 0) && answer.text == (refused ? 4 : 0) &&
+           answer.line == (refused ? 121 : 0) &&
+           (request != NIGHT || (!answer.day.entitled && answer.night.entitled)) &&
+           same_period(answer.day, product.day) && same_period(answer.night, product.night) &&
+           answer.entitled == product.entitled;
+}
+
+/* What the bench rests on. */
+static void check_answers(int program)
+{
+    for (int row = 0; row < STUDIES + REQUESTS; row++)
+        if (row < STUDIES ? !study_expected(programs[program].levels, row)
+                          : !request_expected(programs[program].entitlement, row - STUDIES)) {
+            fprintf(stderr, "bench: unexpected answer to %s by %s\n", row_name(row), programs[program].name);
             exit(1);
         }
-    }
 }
 
 static double seconds(void)
@@ -103,11 +203,11 @@ static double seconds(void)
     return (double)now.tv_sec + 1e-9 * (double)now.tv_nsec;
 }
 
-static double time_calls(levels_function *levels, int study, int count)
+static double time_calls(int program, int row, int count)
 {
     double start = seconds();
     for (int i = 0; i < count; i++)
-        call(levels, study);
+        call(program, row);
     return (seconds() - start) / count;
 }
 
@@ -118,50 +218,49 @@ static int by_size(const void *a, const void *b)
 }
 
 /* All in turn, in rounds of about 2 ms, so that a busy machine slows all; the medians count. */
-static void time_study(int study, int rounds)
+static void time_row(int row, int rounds)
 {
     double times[PROGRAMS][101], median[PROGRAMS];
     int counts[PROGRAMS];
     for (int p = 0; p < PROGRAMS; p++)
-        counts[p] = 1 + (int)(0.002 / time_calls(programs[p].levels, study, 3));
+        counts[p] = 1 + (int)(0.002 / time_calls(p, row, 3));
     for (int i = 0; i < rounds; i++)
         for (int p = 0; p < PROGRAMS; p++)
-            times[p][i] = time_calls(programs[p].levels, study, counts[p]);
+            times[p][i] = time_calls(p, row, counts[p]);
     for (int p = 0; p < PROGRAMS; p++) {
         qsort(times[p], (size_t)rounds, sizeof *times[p], by_size);
         median[p] = times[p][rounds / 2];
     }
-    printf("%-8s %10.0f %10.0f %10.0f %10.2f %10.2f\n", studies[study].name, 1e9 * median[PRODUCT],
-           1e9 * median[PLAIN], 1e9 * median[DIGITS], median[PRODUCT] / median[PLAIN],
-           median[PRODUCT] / median[DIGITS]);
+    printf("%-8s %10.0f %10.0f %10.0f %10.2f %10.2f\n", row_name(row), 1e9 * median[PRODUCT], 1e9 * median[PLAIN],
+           1e9 * median[DIGITS], median[PRODUCT] / median[PLAIN], median[PRODUCT] / median[DIGITS]);
 }
 
-static railnoise_answer no_levels(const uint8_t *text, size_t text_length, int32_t *cells, size_t cell_count)
+static void time_rows(const char *head, int first, int end, int rounds)
 {
-    (void)text, (void)text_length, (void)cells, (void)cell_count;
-    return (railnoise_answer){ 0, 0, { true, 0, 0, false }, { true, 0, 0, false } };
+    printf("%-8s %10s %10s %10s %10s %10s\n", head, "product", "plain", "digits", "to plain", "to digits");
+    for (int row = first; row < end; row++)
+        time_row(row, rounds);
 }
 
 typedef struct {
-    levels_function *levels;
-    int study;
+    int program, row;
 } stack_job;
 
 static void *run_job(void *job)
 {
     stack_job *j = job;
-    call(j->levels, j->study);
+    call(j->program, j->row);
     return NULL;
 }
 
 /* Runs one call on a painted stack; gives the bytes from its end to the deepest one written. */
-static size_t reached(levels_function *levels, int study)
+static size_t reached(int program, int row)
 {
     enum { SIZE = 4 << 20, PAINT = 0xa5 };
     unsigned char *stack = mmap(NULL, SIZE, PROT_READ | PROT_WRITE, MAP_PRIVATE | MAP_ANONYMOUS, -1, 0);
     pthread_attr_t attributes;
     pthread_t thread;
-    stack_job job = { levels, study };
+    stack_job job = { program, row };
     if (stack == MAP_FAILED)
         exit(2);
     memset(stack, PAINT, SIZE);
@@ -178,21 +277,21 @@ static size_t reached(levels_function *levels, int study)
 }
 
 /* The same call with an empty function is taken off: thread start, cells and the caller's frame. */
-static void measure_stack(void)
+static void measure_stack(const char *head, int first, int end)
 {
-    printf("%-8s %10s %10s %10s\n", "stack", "product", "plain", "digits");
-    for (int study = 0; study < ROWS; study++) {
-        size_t base = reached(no_levels, study);
-        printf("%-8s", studies[study].name);
+    printf("%-8s %10s %10s %10s\n", head, "product", "plain", "digits");
+    for (int row = first; row < end; row++) {
+        size_t base = reached(NOTHING, row);
+        printf("%-8s", row_name(row));
         for (int p = 0; p < PROGRAMS; p++)
-            printf(" %10zu", reached(programs[p].levels, study) - base);
+            printf(" %10zu", reached(p, row) - base);
         printf("\n");
     }
 }
 
 static int usage(void)
 {
-    fprintf(stderr, "usage: bench time [ROUNDS] | call product|plain|digits STUDY COUNT | stack\n");
+    fprintf(stderr, "usage: bench check | time [ROUNDS] | call product|plain|digits ROW COUNT | stack\n");
     return 2;
 }
 
@@ -200,30 +299,32 @@ int main(int count, char **words)
 {
     write_texts();
     for (int p = 0; p < PROGRAMS; p++)
-        check_answers(programs[p].levels);
+        check_answers(p);
+    if (count == 2 && strcmp(words[1], "check") == 0)
+        return 0;
     if (count >= 2 && strcmp(words[1], "time") == 0) {
         int rounds = count > 2 ? atoi(words[2]) : 31;
         if (rounds < 1 || rounds > 101)
             return usage();
-        printf("%-8s %10s %10s %10s %10s %10s\n", "ns", "product", "plain", "digits", "to plain", "to digits");
-        for (int study = 0; study < ROWS; study++)
-            time_study(study, rounds);
+        time_rows("ns", 0, ROWS, rounds);
+        time_rows("request", STUDIES, STUDIES + REQUESTS, rounds);
         return 0;
     }
     if (count == 2 && strcmp(words[1], "stack") == 0) {
-        measure_stack();
+        measure_stack("stack", 0, ROWS);
+        measure_stack("request", STUDIES, STUDIES + REQUESTS);
         return 0;
     }
     if (count != 5 || strcmp(words[1], "call") != 0)
         return usage();
-    int program = 0, study = 0;
+    int program = 0, row = 0;
     while (program < PROGRAMS && strcmp(words[2], programs[program].name) != 0)
         program++;
-    while (study < STUDIES && strcmp(words[3], studies[study].name) != 0)
-        study++;
-    if (program == PROGRAMS || study == STUDIES)
+    while (row < STUDIES + REQUESTS && strcmp(words[3], row_name(row)) != 0)
+        row++;
+    if (program == PROGRAMS || row == STUDIES + REQUESTS)
         return usage();
     for (int i = 0; i < atoi(words[4]); i++)
-        call(programs[program].levels, study);
+        call(program, row);
     return 0;
 }
