@@ -55,13 +55,15 @@ typedef struct {
  * same window: nobody can check that here. A set that has no lines is marked as empty: the lines to be
  * built, before the works; a house without other lines. It is then silent. Give null and 0 with the mark; a
  * text that stands there all the same makes no difference, but its pointer must be good for its length.
+ * After the works means the loudest traffic expected within 15 years (the memorandum's Example 1), of the
+ * other lines too.
  *
  * A set that is not marked needs a study of at least one train entry, so an empty text by itself is no empty
  * study: it is refusal 13 at line 1. Refusal 23, of a study without an entry, never comes from this function.
  *
- * In a period without trains a set's level is silent. Silent lies more than 1.0 dB below every figure and is
- * not above another silent one. So where the relevant level is silent, no condition holds. Where it is a
- * figure, it rises over a silent prevailing level and contributes beside silent other lines after.
+ * In a period without trains a set's level is silent. Where the relevant level is silent, no condition holds.
+ * Where it is a figure, however low, it rises over a silent prevailing level and contributes beside silent
+ * other lines after.
  *
  * The texts are looked at in the order of the parameters; the first that is refused ends the request. No
  * cells are lent. Texts are only read, and one text may be given twice: other lines that stay as they are.

@@ -16,7 +16,7 @@ KEYWORDS = {"module", "let", "where", "record", "data", "ruleset"}
 
 def words(text):
     """The words of a text. A dot joins no word, since a field and a qualified name have one before them."""
-    return set(re.split(r"[\s(){}.,;⌜⌝\"]+", text)) | set(re.findall(r"\w+", text))
+    return set(re.split(r"[\s(){}.,;⌜⌝\"]+", text)) | set(re.findall(r"[\w-]+", text))
 
 
 def parts(name):

@@ -27,7 +27,7 @@ RESULT = re.compile(r"(?P<period>day|night) (?P<level>\S+) (?P<close>\d+) (?P<me
 REFUSED = re.compile(r"refused (?P<number>\d+) line (?P<line>\d+)")
 ADDED = re.compile(r"(?P<name>segment|train|levels|entitlement) (?P<answer>accepted|refused \d+)")
 CONDITIONS = re.compile(
-    r"(?P<period>day|night) reaches (?P<reaches>yes|no) rises (?P<rises>yes|no) contributes (?P<contributes>yes|no) entitled (?P<entitled>yes|no)")
+    r"(?P<period>day|night) prevailing (?P<prevailing>\S+) relevant (?P<relevant>\S+) reaches (?P<reaches>yes|no) rises (?P<rises>yes|no) contributes (?P<contributes>yes|no) entitled (?P<entitled>yes|no)")
 HOUSE = re.compile(r"house (?P<house>yes|no)")
 # What 10 log Q is above the trains step, in tenths.
 HOURS = {"day": 481, "night": 433}

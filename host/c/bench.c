@@ -49,7 +49,7 @@ static const struct {
 
 /* The rows of the tables, and then the sizes, which repeat six segments so that only their number differs; last
  * those that only requests have. */
-enum { ONE, SAMPLE, EIGHT, FULL, REFUSED, ROWS, SIDING_BEFORE = ROWS + 5, SIDING_AFTER, LINE_BESIDE, STUDIES };
+enum { ONE, SAMPLE, EIGHT, FULL, REFUSED, ROWS, TERMINAL_BEFORE = ROWS + 5, TERMINAL_AFTER, LINE_BESIDE, STUDIES };
 static const struct {
     const char *name;
     int segments, entries, last_speed, different;
@@ -64,8 +64,8 @@ static const struct {
     { "24x4", 24, 4, 150, 6 },
     { "6x4", 6, 4, 150, 6 },
     { "12x4", 12, 4, 150, 6 },
-    [SIDING_BEFORE] = { "siding_before", 0, 0, 0, 0 },
-    [SIDING_AFTER] = { "siding_after", 0, 0, 0, 0 },
+    [TERMINAL_BEFORE] = { "terminal_before", 0, 0, 0, 0 },
+    [TERMINAL_AFTER] = { "terminal_after", 0, 0, 0, 0 },
     [LINE_BESIDE] = { "line_beside", 0, 0, 0, 0 },
 };
 
@@ -76,8 +76,8 @@ static const struct {
     const char *name;
     int sets[4];
 } requests[REQUESTS] = {
-    [NIGHT] = { "night", { SIDING_BEFORE, SIDING_AFTER, LINE_BESIDE, LINE_BESIDE } },
-    [NEW] = { "new", { NONE, SIDING_AFTER, NONE, LINE_BESIDE } },
+    [NIGHT] = { "night", { TERMINAL_BEFORE, TERMINAL_AFTER, LINE_BESIDE, LINE_BESIDE } },
+    [NEW] = { "new", { NONE, TERMINAL_AFTER, NONE, LINE_BESIDE } },
     [FULL4] = { "full4", { FULL, FULL, FULL, FULL } },
     [REFUSED4] = { "refused4", { FULL, FULL, FULL, REFUSED } },
 };
@@ -120,8 +120,8 @@ static void write_texts(void)
         lengths[i] = write_study(texts[i], studies[i].segments, studies[i].entries, studies[i].last_speed,
                                  studies[i].different);
     put_typed(SAMPLE, sample);
-    put_typed(SIDING_BEFORE, siding_before);
-    put_typed(SIDING_AFTER, siding_after);
+    put_typed(TERMINAL_BEFORE, terminal_before);
+    put_typed(TERMINAL_AFTER, terminal_after);
     put_typed(LINE_BESIDE, line_beside);
 }
 
@@ -324,7 +324,8 @@ int main(int count, char **words)
         row++;
     if (program == PROGRAMS || row == STUDIES + REQUESTS)
         return usage();
-    for (int i = 0; i < atoi(words[4]); i++)
+    int calls = atoi(words[4]);
+    for (int i = 0; i < calls; i++)
         call(program, row);
     return 0;
 }

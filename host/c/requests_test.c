@@ -452,6 +452,17 @@ static void test_marked_texts(void)
         }
         expect(ask(texts[i], texts[i], texts[i], texts[i]), silent, silent, "none of four texts looked at");
     }
+    /* Not one byte of it is read: it may lie in a closed page. */
+    uint8_t *closed = guarded_make(1).start - 8;
+    for (int set = 0; set < SETS; set++) {
+        request r = house();
+        uint8_t *places[SETS];
+        for (int i = 0; i < SETS; i++)
+            places[i] = (uint8_t *)r.of[i].text;
+        places[set] = closed;
+        r.of[set] = (lines){ NULL, 8, true };
+        expect(call(&r, places), expected[set].day, expected[set].night, expected[set].about);
+    }
 }
 
 /* Each refusal at each place, among lines that would entitle the house. */
@@ -495,7 +506,7 @@ static void test_refusals(void)
 static void test_several_refused(void)
 {
     static const char *const trains[SETS] = { "35 100 1 1 1\n", "1 301 1 1 1\n", "1 100 61 1 1\n", "1 100 1 2001 1\n" };
-    for (unsigned refused = 0; refused < 16; refused++)
+    for (unsigned refused = 1; refused < 16; refused++)
         for (unsigned marks = 0; marks < 16; marks++) {
             char about[60], texts[SETS][100];
             snprintf(about, sizeof about, "refused texts %x, marked %x", refused, marks);

@@ -14,10 +14,10 @@ static const char sample[] =
     "10000 330 235 10 36 36 0 0 0 0 0 0 1 0 0\n"
     "1 150 10 179 13\n";
 
-/* A house that is entitled by night alone, README's and docs/studies': a siding that had trains by day gets eight
+/* A house that is entitled by night alone, README's and docs/studies': a terminal's track that had trains by day gets eight
  * by night, and a line beside it stays as it is. */
-static const char siding_before[] = "1 2\n2000 330 235 5 180 180 0 0 0 0 0 0 1 0 0\n20 50 30 24 0\n26 50 1 24 0\n";
-static const char siding_after[] = "1 2\n2000 330 235 5 180 180 0 0 0 0 0 0 1 0 0\n20 50 30 24 8\n26 50 1 24 8\n";
+static const char terminal_before[] = "1 2\n2000 330 235 5 180 180 0 0 0 0 0 0 1 0 0\n20 50 30 24 0\n26 50 1 24 0\n";
+static const char terminal_after[] = "1 2\n2000 330 235 5 180 180 0 0 0 0 0 0 1 0 0\n20 50 30 24 8\n26 50 1 24 8\n";
 static const char line_beside[] = "1 1\n5000 330 235 5 180 180 0 0 0 0 0 0 1 0 0\n10 120 8 80 20\n";
 
 /* A segment that adds nothing, and a train; the tenths of its level by day and by night. */

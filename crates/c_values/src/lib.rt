@@ -4,7 +4,7 @@ ghost use Rattle.c_values.specs.Values.{levelValue, lineValue};
 use decibel::Level;
 
 // The largest number of 32 bits.
-const MOST_LINE: usize = 4294967295;
+const MOST_LINE: u32 = 4294967295;
 
 // A level: whether it is silent, and its tenths, 0 when silent.
 pub struct LevelValue {
@@ -12,6 +12,7 @@ pub struct LevelValue {
     pub tenths: i32,
 }
 
+// A level's value for a struct of C.
 pub fn level_value(level: Level) -> LevelValue
     ensures { λ r. ⌜ r ≡ levelValue level ⌝ }
 {
@@ -31,9 +32,9 @@ pub fn level_value(level: Level) -> LevelValue
 pub fn line_value(line: usize) -> u32
     ensures { λ r. ⌜ r ≡ lineValue line ⌝ }
 {
-    if line < MOST_LINE {
+    if line < (MOST_LINE as usize) {
         line as u32
     } else {
-        4294967295
+        MOST_LINE
     }
 }

@@ -7,7 +7,7 @@ use lib.Dec.{lit<, lit≤}
 use lib.IntN.{ℤ, pos, _+ℤ_}
 use mir.Syntax.{w32}
 use mir.Val.{SFits}
-use Rattle.decibel.specs.Round.{micro, nearest}
+use Rattle.decibel.specs.Round.{nearest}
 use Rattle.decibel.specs.declared.Level.{Level}
 use Rattle.decibel.specs.declared.Level.the-variants.{Silent, Figure}
 use Rattle.decibel.proofs.Round.{Near, near-nearest, near-exact, near-add}

@@ -1,6 +1,6 @@
--- A total lies less than 19.9 dB above its loudest level, and a level alone is its own total, unmarked.
+-- A total of levels up to 180 dB is a level that cells can hold, and a level alone is its own total, unmarked.
 -- Assumes nothing.
-use mathlib.Core.Path.{_≡_, refl, sym, ap₂, _∙_, subst}
+use mathlib.Core.Path.{_≡_, sym, ap₂, _∙_, subst}
 use mathlib.Core.Bool.{Bool, false}
 use mathlib.Core.List.{List, [], _∷_}
 use Prim.Native.Nat.{ℕ, _+_, _-_, _≤_, _<_, zero-le}
@@ -25,9 +25,8 @@ use Rattle.energy.proofs.Thresholds.{tenths-least, passed-most, passed-
 use Rattle.energy.proofs.Levels.{height-is, louder, loudest-above, loudest-some, weighed-most}
 use Rattle.energy.proofs.Named.{total-figure}
 
--- ---- how far above the loudest
-
-no-figure {ℓ} : {A : Type ℓ} (f : ℤ) → _≡_ {A = Level} Silent (Figure f) → A
+-- silent is no figure
+pub no-figure {ℓ} : {A : Type ℓ} (f : ℤ) → _≡_ {A = Level} Silent (Figure f) → A
 no-figure f e = let z : _≡_ {A = ℕ} 0 1 = cc in let x : ⊥ = omega arith in absurd x
 
 -- where no level is above 180 dB, the total is a level that cells can hold
@@ -50,7 +49,6 @@ module _ (f : ℤ) (low : negsuc 1999 ≤ℤ f) (high : f ≤ℤ pos 2000) where
   alone-kept : LevelsKept (f ∷ [])
   alone-kept = next low high none
 
-  -- its weight is the unit, short of the first mark
   loudest-alone : loudestOf (f ∷ []) ≡ heightOf f
   unfolding loudestOf
   loudest-alone = le-antisymm (louder (λ t. t ≤ heightOf f) (heightOf f) 0 (λ _. zero-le) (λ _. le-refl (heightOf f))) (loudest-above f [] .0)
@@ -58,6 +56,7 @@ module _ (f : ℤ) (low : negsuc 1999 ≤ℤ f) (high : f ≤ℤ pos 2000) where
   abbrev sum : ℕ
   sum = weighed (loudestOf (f ∷ [])) (f ∷ [])
 
+  -- its weight is the unit, short of the first mark
   sum-most : sum ≤ unit
   sum-most = omega (arith, weighed-most (loudestOf (f ∷ [])) (f ∷ []))
 

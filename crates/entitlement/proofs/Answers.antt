@@ -7,7 +7,7 @@ use Rattle.figures.specs.declared.Period.the-variants.{Day, Night}
 use Rattle.figures.specs.declared.Refusal.{Refusal}
 use Rattle.figures.specs.declared.Check.{Check}
 use Rattle.figures.specs.declared.Check.the-variants.{Accepted, Refused}
-use Rattle.figures.specs.Refusal.{numberOf, checkNumber, unless, firstRefused}
+use Rattle.figures.specs.Refusal.{numberOf, checkNumber, firstRefused}
 use Rattle.figures.specs.Rules.{lowestNumber}
 use Rattle.figures.proofs.Numbers.{unless-number}
 use Rattle.entitlement.specs.declared.Layout.{Layout}

@@ -6,7 +6,6 @@ use mathlib.Core.List.{List, map}
 use Prim.Native.Nat.{_+_, _≤_}
 use native.Mathlib.Omega.{arith}
 use borrow.Author.Tests.{le-leb}
-use lib.Dec.{leb}
 use lib.IntN.{ℤ, pos, negsuc}
 use lib.Signed.{_≤ℤ_}
 use lib.ListN.{length}
@@ -37,7 +36,7 @@ use Rattle.entitlement.specs.Private.{Few, Reports, LayoutReports}
 
 -- ---- a level that cells hold is held as it is
 
-pub held-inside : (l : Level) → ((f : ℤ) → l ≡ Figure f → (negsuc 1999 ≤ℤ f) × (f ≤ℤ pos 2000)) → held l ≡ l
+held-inside : (l : Level) → ((f : ℤ) → l ≡ Figure f → (negsuc 1999 ≤ℤ f) × (f ≤ℤ pos 2000)) → held l ≡ l
 held-inside Silent lies = refl
 held-inside (Figure f) lies = rw (lt-false f (negsuc 1999) (lies f refl .0), lt-false (pos 2000) f (lies f refl .1))
 

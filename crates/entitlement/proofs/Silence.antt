@@ -3,7 +3,6 @@
 use mathlib.Core.Path.{_≡_, refl, sym, ap, _∙_, subst}
 use mathlib.Core.List.{List}
 use mathlib.Core.Bool.{Bool, true, false, cond, _||_}
-use Prim.Native.Nat.{ℕ}
 use native.Mathlib.Omega.{arith}
 use lib.Dec.{ltb}
 use lib.IntN.{ℤ, pos, negsuc, _+ℤ_}
@@ -16,7 +15,7 @@ use Rattle.energy.specs.Total.{totalBy}
 use Rattle.energy.specs.Mark.{totalOf}
 use Rattle.energy.specs.declared.Total.{Total}
 use Rattle.energy.proofs.Order.{le-false, not-less}
-use Rattle.energy.proofs.Alone.{total-alone}
+use Rattle.energy.proofs.Alone.{no-figure, total-alone}
 use Rattle.figures.specs.declared.Period.{Period}
 use Rattle.figures.specs.declared.Period.the-variants.{Day, Night}
 use Rattle.request.specs.Levels.{figures, metBy, resultBy, ownMarks}
@@ -36,9 +35,6 @@ use Rattle.entitlement.proofs.Reports.{reported-held}
 use Rattle.entitlement.specs.Silence.{asRead, layoutAsRead, SilenceMeans}
 
 -- ---- a level alone
-
-no-figure {ℓ} : {A : Type ℓ} (f : ℤ) → _≡_ {A = Level} Silent (Figure f) → A
-no-figure f e = let z : _≡_ {A = ℕ} 0 1 = cc in let x : ⊥ = omega arith in absurd x
 
 -- a figure that is held as it is lies from -200 to 200 dB
 held-lies : (f : ℤ) → held (Figure f) ≡ Figure f → (negsuc 1999 ≤ℤ f) × (f ≤ℤ pos 2000)

@@ -9,6 +9,9 @@ ghost use Rattle.entitlement.specs.Conditions.{combined, exceeds, period
 ghost use Rattle.entitlement.specs.Entitlement.{held, heldChange, refusedEntitlement, noPeriod, EntitlementAnsweredBy, EntitlementAnswered, entitlementNumber};
 ghost use Rattle.entitlement.specs.Private.{Reports, LayoutReports};
 use decibel::Level;
+use energy::LEAST_LEVEL;
+use energy::MOST_LEVEL;
+use energy::SILENT_CELL;
 use energy::Total;
 use energy::total_of;
 use figures::Check;
@@ -19,13 +22,6 @@ use request::MOST_CELLS;
 use request::is_met;
 use request::levels;
 use study::Study;
-
-// What a working cell (01's term) holds of a silent level, and the levels that cells can hold, in tenths.
-const SILENT_CELL: i32 = -9999;
-
-const LEAST_LEVEL: i32 = -2000;
-
-const MOST_LEVEL: i32 = 2000;
 
 // 1.0 dB in tenths.
 const DECIBEL: i64 = 10;
@@ -42,7 +38,7 @@ pub struct Layout {
     pub other: Lines,
 }
 
-// The levels that both report in a period.
+// The levels that a layout's altered lines and its other lines report in a period.
 pub struct Levels {
     pub altered: Level,
     pub other: Level,
@@ -154,11 +150,11 @@ fn period_of(period: Period, change: Change) -> PeriodEntitlement
     let other_after = after.other;
     let prevailing = combine(altered_before, other_before);
     let relevant = combine(altered_after, other_after);
-    let was = prevailing.level;
-    let level = relevant.level;
-    let reaches = is_met(period, level);
-    let rises = is_above(level, was);
-    let contributes = is_above(level, held_level(other_after));
+    let prevailing_level = prevailing.level;
+    let relevant_level = relevant.level;
+    let reaches = is_met(period, relevant_level);
+    let rises = is_above(relevant_level, prevailing_level);
+    let contributes = is_above(relevant_level, held_level(other_after));
     PeriodEntitlement {
         prevailing,
         relevant,
@@ -243,10 +239,10 @@ fn report_of(empty: bool, study: Study) -> LinesReport
 fn layout_report_of(layout: Layout) -> LayoutReport
     ensures { λ r. ⌜ LayoutReports layout r ⌝ }
 {
-    let lines = layout.altered;
-    let others = layout.other;
-    let altered = report_of(lines.empty, lines.study);
-    let other = report_of(others.empty, others.study);
+    let altered_lines = layout.altered;
+    let other_lines = layout.other;
+    let altered = report_of(altered_lines.empty, altered_lines.study);
+    let other = report_of(other_lines.empty, other_lines.study);
     let first = altered.check;
     let second = other.check;
     let altered_day = altered.day;

@@ -7,7 +7,7 @@ use Prim.Native.Nat.{ℕ, _+_, _-_, _*_, _/_, _%_, _≤_, _<_}
 use native.Mathlib.Nat.{lt-of-not-le, mul-le-mul, mul-zero, zero-div}
 use native.Mathlib.Decide.{decLe}
 use native.Mathlib.Omega.{arith}
-use lib.Dec.{leb, ltb, lit<, lit≤}
+use lib.Dec.{ltb, lit<, lit≤}
 use lib.IntN.{ℤ, pos, negsuc, negℤ, _+ℤ_, _-ℤ_}
 use borrow.Author.Tests.{le-leb, lt-leb, ltb-true}
 use Rattle.decibel.specs.Ints.{up, dn}

@@ -10,7 +10,7 @@ use lib.IntN.{ℤ, pos, negsuc, _+ℤ_}
 use mir.Syntax.{w16, w32}
 use mir.Val.{SFits, toZ, ofZ}
 use mir.Facts.{toZ-ofZ}
-use Rattle.decibel.specs.Round.{micro, nearest}
+use Rattle.decibel.specs.Round.{nearest}
 use Rattle.decibel.proofs.Round.{Near, near-nearest, near-mark, near-exact, near-add}
 use Rattle.figures.specs.declared.Segment.{Segment}
 use Rattle.figures.specs.declared.Refusal.{Refusal}

@@ -18,7 +18,7 @@ use Rattle.text.proofs.Refusals.{text-refusal-is-own}
 use Rattle.entitlement.specs.declared.Lines.{Lines}
 use Rattle.entitlement.specs.Entitlement.{refusedEntitlement, entitlementBy, entitlementOf}
 use Rattle.railnoise_requests_c.specs.declared.RailnoiseEntitlementAnswer.{RailnoiseEntitlementAnswer}
-use Rattle.railnoise_requests_c.specs.Entitlement.{exportedEntitlement, Source, source, sourceCheck, givenLines, endedBy, readAt, layoutOf, entitlementIn, asLookedAt, EntitlementCalls}
+use Rattle.railnoise_requests_c.specs.Entitlement.{exportedEntitlement, Source, sourceCheck, givenLines, endedBy, readAt, layoutOf, entitlementIn, asLookedAt, EntitlementCalls}
 use Rattle.railnoise_requests_c.proofs.Calls.{kept-all}
 
 -- no refusal has the number 0

@@ -16,7 +16,6 @@ use Rattle.figures.specs.declared.Check.the-variants.{Accepted, Refused}
 use Rattle.figures.proofs.Kept.{refused-not}
 use Rattle.study.specs.Plan.{Plan, planOf, emptyStudy}
 use Rattle.study.specs.Add.{ours}
-use Rattle.study.specs.Run.{accepted}
 use Rattle.study.proofs.Plans.{accepted-held}
 use Rattle.study.proofs.Runs.{run-accepted}
 use Rattle.request.specs.Levels.{ownMarks}

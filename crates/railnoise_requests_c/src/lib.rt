@@ -102,18 +102,23 @@ fn answer_of(answer: Entitlement, text: u32, line: usize) -> RailnoiseEntitlemen
     }
 }
 
-// The levels of a period, by their lines.
-fn change_of(old: Level, new: Level, before: Level, after: Level) -> Change
-    ensures { λ r. ⌜ r ≡ changeOf old new before after ⌝ }
+// The levels of a period.
+fn change_of(
+    altered_before: Level,
+    altered_after: Level,
+    other_before: Level,
+    other_after: Level,
+) -> Change
+    ensures { λ r. ⌜ r ≡ changeOf «altered_before» «altered_after» «other_before» «other_after» ⌝ }
 {
     Change {
         before: Levels {
-            altered: old,
-            other: before,
+            altered: altered_before,
+            other: other_before,
         },
         after: Levels {
-            altered: new,
-            other: after,
+            altered: altered_after,
+            other: other_after,
         },
     }
 }
@@ -161,16 +166,16 @@ fn entitled(
 ) -> Entitlement
     ensures { λ r. ⌜ EntitlementAnsweredBy (byDay first second third fourth) (byNight first second third fourth) r ⌝ }
 {
-    let altered_before = first.day;
-    let altered_after = second.day;
-    let other_before = third.day;
-    let other_after = fourth.day;
-    let day = change_of(altered_before, altered_after, other_before, other_after);
-    let altered_old = first.night;
-    let altered_new = second.night;
-    let other_old = third.night;
-    let other_new = fourth.night;
-    let night = change_of(altered_old, altered_new, other_old, other_new);
+    let day_first = first.day;
+    let day_second = second.day;
+    let day_third = third.day;
+    let day_fourth = fourth.day;
+    let day = change_of(day_first, day_second, day_third, day_fourth);
+    let night_first = first.night;
+    let night_second = second.night;
+    let night_third = third.night;
+    let night_fourth = fourth.night;
+    let night = change_of(night_first, night_second, night_third, night_fourth);
     entitlement_by(day, night)
 }
 

@@ -2,27 +2,44 @@
 use crate::additions::show;
 use crate::additions::with_segments;
 use crate::put;
+use decibel::Level;
 use entitlement::Layout;
 use entitlement::Lines;
 use entitlement::PeriodEntitlement;
 use entitlement::entitlement_of;
 use figures::Train;
+use libc::STDOUT_FILENO;
 
-// One segment, and where trains run an entry of so many by day and as many by night.
-fn lines(trains: i32, empty: bool) -> Lines {
-    let mut study = with_segments(1);
-    if 0 < trains {
-        let train = Train {
-            row: 1,
-            speed: 100,
-            vehicles: 1,
-            day: trains,
-            night: trains,
-        };
-        let added = study::add_train(study, train);
-        study = added.study;
-    }
+// One segment with one entry of so many trains by day and by night.
+fn lines(day: i32, night: i32, empty: bool) -> Lines {
+    let train = Train {
+        row: 1,
+        speed: 100,
+        vehicles: 1,
+        day,
+        night,
+    };
+    let added = study::add_train(with_segments(1), train);
+    let study = added.study;
     Lines { empty, study }
+}
+
+// One segment without an entry.
+fn without_entry(empty: bool) -> Lines {
+    let study = with_segments(1);
+    Lines { empty, study }
+}
+
+// A level in tenths; none here is below zero.
+fn show_level(name: &[u8], level: Level) {
+    put(name);
+    match level {
+        Level::Silent => put(b" silent"),
+        Level::Figure(tenths) => {
+            put(b" ");
+            io::print_decimal(STDOUT_FILENO, figures::natural(tenths));
+        }
+    }
 }
 
 fn show_condition(name: &[u8], holds: bool) {
@@ -35,7 +52,13 @@ fn show_condition(name: &[u8], holds: bool) {
 }
 
 fn show_period(name: &[u8], period: PeriodEntitlement) {
+    let prevailing = period.prevailing;
+    let relevant = period.relevant;
+    let before = prevailing.level;
+    let after = relevant.level;
     put(name);
+    show_level(b" prevailing", before);
+    show_level(b" relevant", after);
     show_condition(b" reaches", period.reaches);
     show_condition(b" rises", period.rises);
     show_condition(b" contributes", period.contributes);
@@ -60,56 +83,42 @@ fn layout(altered: Lines, other: Lines) -> Layout {
     Layout { altered, other }
 }
 
-// 23, for each of the four.
-fn show_without_entry(few: Lines, without: Lines) {
+// Other lines at each of the four places, beside few trains at the others.
+fn show_places(few: Lines, lines: Lines, first: &[u8], second: &[u8], third: &[u8], fourth: &[u8]) {
     let both = layout(few, few);
-    show_trial(
-        b"# Entitlement: altered lines before without an entry\n",
-        layout(without, few),
-        both,
-    );
-    show_trial(
-        b"# Entitlement: altered lines after without an entry\n",
-        both,
-        layout(without, few),
-    );
-    show_trial(
-        b"# Entitlement: other lines before without an entry\n",
-        layout(few, without),
-        both,
-    );
-    show_trial(
-        b"# Entitlement: other lines after without an entry\n",
-        both,
-        layout(few, without),
-    );
+    show_trial(first, layout(lines, few), both);
+    show_trial(second, both, layout(lines, few));
+    show_trial(third, layout(few, lines), both);
+    show_trial(fourth, both, layout(few, lines));
 }
 
 pub(crate) fn show_each() {
-    let few = lines(1, false);
-    let many = lines(2000, false);
-    let hidden = lines(2000, true);
-    let none = lines(0, true);
-    show_without_entry(few, lines(0, false));
+    let few = lines(1, 1, false);
+    show_places(
+        few,
+        without_entry(false),
+        b"# Entitlement: altered lines before without an entry\n",
+        b"# Entitlement: altered lines after without an entry\n",
+        b"# Entitlement: other lines before without an entry\n",
+        b"# Entitlement: other lines after without an entry\n",
+    );
+    show_places(
+        few,
+        lines(2000, 2000, true),
+        b"# Entitlement: altered lines before marked as empty\n",
+        b"# Entitlement: altered lines after marked as empty\n",
+        b"# Entitlement: other lines before marked as empty\n",
+        b"# Entitlement: other lines after marked as empty\n",
+    );
+    let none = without_entry(true);
     show_trial(
         b"# Entitlement: all four marked as empty\n",
-        layout(none, hidden),
-        layout(hidden, none),
-    );
-    let both = layout(few, few);
-    show_trial(
-        b"# Entitlement: many trains after the works\n",
-        both,
-        layout(many, few),
-    );
-    show_trial(
-        b"# Entitlement: many trains marked as empty\n",
-        both,
-        layout(hidden, few),
-    );
-    show_trial(
-        b"# Entitlement: new lines, no others\n",
         layout(none, none),
-        layout(many, none),
+        layout(none, none),
+    );
+    show_trial(
+        b"# Entitlement: many trains by night\n",
+        layout(lines(1, 0, false), few),
+        layout(lines(1, 2000, false), few),
     );
 }

@@ -3,7 +3,7 @@
 use mathlib.Core.Path.{_≡_, refl}
 use mathlib.Core.Bool.{Bool, true, false, cond, _||_, false≢true}
 use mathlib.Core.List.{List, [], _∷_, map}
-use Prim.Native.Nat.{ℕ, zero, suc, _-_, _≤_, _<_, zero-le, suc-le-suc}
+use Prim.Native.Nat.{ℕ, suc, _-_, _≤_, _<_, zero-le, suc-le-suc}
 use native.Mathlib.Nat.{le-trans, le-suc, lt-irrefl, zero-lt-suc}
 use lib.IntN.{ℤ}
 use lib.ListN.{length}

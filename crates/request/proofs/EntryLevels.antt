@@ -2,7 +2,7 @@
 -- Assumes nothing.
 use mathlib.Core.Path.{_≡_, refl, sym, _∙_, ap, ap₂, subst}
 use mathlib.Core.Bool.{Bool, true, false}
-use Prim.Native.Nat.{ℕ, _+_, _≤_}
+use Prim.Native.Nat.{_+_, _≤_}
 use native.Mathlib.Omega.{arith}
 use lib.Dec.{lit≤}
 use lib.IntN.{ℤ, pos, negsuc, _+ℤ_}
@@ -11,6 +11,7 @@ use Rattle.decibel.specs.declared.Level.{Level}
 use Rattle.decibel.specs.declared.Level.the-variants.{Silent, Figure}
 use Rattle.decibel.proofs.Ints.{ints}
 use Rattle.decibel.proofs.Round.{Near, near-add}
+use Rattle.energy.proofs.Alone.{no-figure}
 use Rattle.figures.specs.declared.Segment.{Segment}
 use Rattle.figures.specs.declared.Train.{Train}
 use Rattle.figures.specs.declared.Period.{Period}
@@ -72,9 +73,6 @@ train-tenths-lie p t et trains = near-lies 2000 1800 (trainTenths p t) _ (lit≤
 -- and so where its segment is refused and adds nothing
 alone-lies : (p : Period) (t : Train) → trainCheck t ≡ Accepted → sounds p t ≡ true → Signed 2000 1800 (pos 0 +ℤ trainTenths p t)
 alone-lies p t et trains = let zero : Signed 0 0 (pos 0) = record { most = lit≤ tt; least = lit≤ tt } in lies-add zero (train-tenths-lie p t et trains)
-
-no-figure {ℓ} : {A : Type ℓ} (r : ℤ) → _≡_ {A = Level} Silent (Figure r) → A
-no-figure r e = let z : _≡_ {A = ℕ} 0 1 = cc in let x : ⊥ = omega arith in absurd x
 
 same-figure : (P : ℤ → Type 0) (a r : ℤ) → _≡_ {A = Level} (Figure a) (Figure r) → P a → P r
 same-figure P a r e h = let q : a ≡ r = cc in subst P q h

@@ -14,6 +14,8 @@ ghost use Rattle.request.specs.Levels.{cellOf, limitOf, metBy};
 ghost use Rattle.request.specs.Request.{Answered, AnsweredFrom, requestNumber, levelsNumber, entryCells, periodFrom, refusedBy};
 ghost use Rattle.request.specs.Private.{Blank, Propagated, Filled, SegmentsHeard, CloseCount, AnyClose, CloseSegments, markedBy};
 use decibel::Level;
+use energy::LEAST_LEVEL;
+use energy::SILENT_CELL;
 use figures::Check;
 use figures::Period;
 use figures::Refusal;
@@ -27,12 +29,6 @@ use study::holdings_of;
 
 // The working cells that the entries of any study need.
 pub const MOST_CELLS: usize = 192;
-
-// What a working cell (01's term) holds of an entry that has no trains in the period.
-const SILENT_CELL: i32 = -9999;
-
-// The least level that a cell can hold, in tenths: any below it is silent.
-const LEAST_LEVEL: i32 = -2000;
 
 // The tenths from which a level, to the nearest whole decibel, is 68 dB by day and 63 dB by night or more.
 const DAY_LIMIT: i32 = 675;

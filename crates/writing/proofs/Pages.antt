@@ -8,7 +8,6 @@ use native.Mathlib.Decide.{decLe}
 use native.Mathlib.Numerals.{add-one}
 use native.Mathlib.Omega.{arith}
 use borrow.Author.Tests.{le-leb, lt-leb}
-use lib.Dec.{leb}
 use lib.ListN.{length, take, drop, set, getD, length-append, length-drop, take-append-drop}
 use lib.Seq.{paste, paste-suc, length-paste, length-take-le, take-length, take-all, take-append-seam, take-at, drop-at, drop-drop}
 use Rattle.writing.specs.Pages.{Page, page, placed, putOn, putEach, Put, PutEach}

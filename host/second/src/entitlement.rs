@@ -2,7 +2,7 @@
 //!
 //! A study's reported levels may hang on free marks: on those of its ground steps, where a segment has one
 //! mark for both periods, and on each period's total's. So a study has a list of levels that it may report,
-//! nearly always one pair. An answer is allowed when some choice from the four lists explains all of it.
+//! mostly one pair. An answer is allowed when some choice from the four lists explains all of it.
 //! Studies choose apart from each other, also where one text is given twice: nothing in 01 or 02 says that
 //! equal studies are marked alike.
 

@@ -36,8 +36,6 @@ pub struct Tally {
     pub free: [u64; 2],
     /// Answers with more than one choice of the studies' levels.
     pub several: u64,
-    /// Answers that the levels of railnoise_levels do not explain.
-    pub unsteady: u64,
     /// Periods whose relevant level is 0.9, 1.0 and 1.1 dB above the prevailing one, and above the other lines after.
     pub rises: [u64; 3],
     pub contributions: [u64; 3],
@@ -111,7 +109,7 @@ impl Tally {
              refused; answered {}, entitled {} by day {} by night {} houses; reaches {reaches}, rises {rises}, \
              contributes {contributes}; rise {}; contribution {}; day 67.4:{day_under} 67.5:{day_at} night \
              62.4:{night_under} 62.5:{night_at}; without trains {}; silent {} prevailing {} relevant; marks required \
-             {}, free {} taken {} not taken, several levels {} unsteady {}; {seconds:.1} s",
+             {}, free {} taken {} not taken, several levels {}; {seconds:.1} s",
             self.kinds.values().sum::<u64>(),
             kinds.join(", "),
             by_place(self.refused),
@@ -131,7 +129,6 @@ impl Tally {
             self.free[1],
             self.free[0],
             self.several,
-            self.unsteady,
         )
     }
 }

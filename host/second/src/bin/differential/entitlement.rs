@@ -119,8 +119,9 @@ fn try_case(options: &Options, bench: &mut Bench, index: u64, tally: &mut Tally)
         Err(words) => fail(options, index, &case, &answer, &words),
     };
     tally.add(&case, &answer, explanation);
-    if explanation.is_some() {
-        tally.unsteady += !explains(&bench.reported(&case), &answer) as u64;
+    // The levels combined are those that the product itself reports: a study has one answer.
+    if explanation.is_some() && !explains(&bench.reported(&case), &answer) {
+        fail(options, index, &case, &answer, "not from the levels that railnoise_levels reports");
     }
     if random.chance(15) {
         let again = bench.call(&case, !at_end, !once);
