@@ -1,10 +1,12 @@
-// A segment's line and a train entry's: each number is read, or the line is refused there.
+// A segment's line and a train entry's: each number goes to its field as it is read, or the line is refused there. What a field may hold is asked of the whole line, so that 12 comes before every other refusal.
 ghost use mathlib.Core.Path.{_≡_};
 ghost use Rattle.lines.specs.Lines.{segmentOf, trainOf};
 use crate::numbers::Number;
 use crate::numbers::number_at;
 use figures::Segment;
 use figures::Train;
+use study::no_segment;
+use study::no_train;
 
 pub enum SegmentLine {
     Fields(Segment),
@@ -20,100 +22,100 @@ pub enum TrainLine {
 pub fn segment_of(line: &[u8]) -> SegmentLine
     ensures { λ r. ⌜ r ≡ segmentOf (now (line .entry)) ⌝ }
 {
-    let Number::Value(distance, after_distance) = number_at(line, 0) else {
+    let mut segment = no_segment();
+    let Number::Value(distance, at) = number_at(line, 0) else {
         return SegmentLine::Malformed;
     };
-    let Number::Value(height, after_height) = number_at(line, after_distance) else {
+    segment.distance = distance;
+    let Number::Value(height, at) = number_at(line, at) else {
         return SegmentLine::Malformed;
     };
-    let Number::Value(mean, after_mean) = number_at(line, after_height) else {
+    segment.height = height;
+    let Number::Value(mean, at) = number_at(line, at) else {
         return SegmentLine::Malformed;
     };
-    let Number::Value(soft, after_soft) = number_at(line, after_mean) else {
+    segment.mean = mean;
+    let Number::Value(soft, at) = number_at(line, at) else {
         return SegmentLine::Malformed;
     };
-    let Number::Value(view, after_view) = number_at(line, after_soft) else {
+    segment.soft = soft;
+    let Number::Value(view, at) = number_at(line, at) else {
         return SegmentLine::Malformed;
     };
-    let Number::Value(doubled, after_doubled) = number_at(line, after_view) else {
+    segment.view = view;
+    let Number::Value(doubled, at) = number_at(line, at) else {
         return SegmentLine::Malformed;
     };
-    let Number::Value(screen, after_screen) = number_at(line, after_doubled) else {
+    segment.doubled = doubled;
+    let Number::Value(screen, at) = number_at(line, at) else {
         return SegmentLine::Malformed;
     };
-    let Number::Value(setback, after_setback) = number_at(line, after_screen) else {
+    segment.screen = screen;
+    let Number::Value(setback, at) = number_at(line, at) else {
         return SegmentLine::Malformed;
     };
-    let Number::Value(top, after_top) = number_at(line, after_setback) else {
+    segment.setback = setback;
+    let Number::Value(top, at) = number_at(line, at) else {
         return SegmentLine::Malformed;
     };
-    let Number::Value(chart, after_chart) = number_at(line, after_top) else {
+    segment.top = top;
+    let Number::Value(chart, at) = number_at(line, at) else {
         return SegmentLine::Malformed;
     };
-    let Number::Value(track, after_track) = number_at(line, after_chart) else {
+    segment.chart = chart;
+    let Number::Value(track, at) = number_at(line, at) else {
         return SegmentLine::Malformed;
     };
-    let Number::Value(ballast, after_ballast) = number_at(line, after_track) else {
+    segment.track = track;
+    let Number::Value(ballast, at) = number_at(line, at) else {
         return SegmentLine::Malformed;
     };
-    let Number::Value(facade, after_facade) = number_at(line, after_ballast) else {
+    segment.ballast = ballast;
+    let Number::Value(facade, at) = number_at(line, at) else {
         return SegmentLine::Malformed;
     };
-    let Number::Value(opposite, after_opposite) = number_at(line, after_facade) else {
+    segment.facade = facade;
+    let Number::Value(opposite, at) = number_at(line, at) else {
         return SegmentLine::Malformed;
     };
-    let Number::Value(wall, after_wall) = number_at(line, after_opposite) else {
+    segment.opposite = opposite;
+    let Number::Value(wall, after_wall) = number_at(line, at) else {
         return SegmentLine::Malformed;
     };
+    segment.wall = wall;
     if after_wall <= line.len() {
         return SegmentLine::Malformed;
     }
-    SegmentLine::Fields(Segment {
-        distance,
-        height,
-        mean,
-        soft,
-        view,
-        doubled,
-        screen,
-        setback,
-        top,
-        chart,
-        track,
-        ballast,
-        facade,
-        opposite,
-        wall,
-    })
+    SegmentLine::Fields(segment)
 }
 
 // The 5 numbers of a train entry's line.
 pub fn train_of(line: &[u8]) -> TrainLine
     ensures { λ r. ⌜ r ≡ trainOf (now (line .entry)) ⌝ }
 {
-    let Number::Value(row, after_row) = number_at(line, 0) else {
+    let mut train = no_train();
+    let Number::Value(row, at) = number_at(line, 0) else {
         return TrainLine::Malformed;
     };
-    let Number::Value(speed, after_speed) = number_at(line, after_row) else {
+    train.row = row;
+    let Number::Value(speed, at) = number_at(line, at) else {
         return TrainLine::Malformed;
     };
-    let Number::Value(vehicles, after_vehicles) = number_at(line, after_speed) else {
+    train.speed = speed;
+    let Number::Value(vehicles, at) = number_at(line, at) else {
         return TrainLine::Malformed;
     };
-    let Number::Value(day, after_day) = number_at(line, after_vehicles) else {
+    train.vehicles = vehicles;
+    let Number::Value(day, at) = number_at(line, at) else {
         return TrainLine::Malformed;
     };
-    let Number::Value(night, after_night) = number_at(line, after_day) else {
+    train.day = day;
+    let Number::Value(night, after_night) = number_at(line, at) else {
         return TrainLine::Malformed;
     };
+    train.night = night;
     if after_night <= line.len() {
         return TrainLine::Malformed;
     }
-    TrainLine::Fields(Train {
-        row,
-        speed,
-        vehicles,
-        day,
-        night,
-    })
+    TrainLine::Fields(train)
 }

@@ -14,7 +14,7 @@ use Rattle.lines.proofs.fields.train_of.Statement.{statement}
 use Rattle.lines.proofs.fields.train_of.Tie as tie
 
 abbrev start-of : tie.After-number-at → tie.Start
-start-of c = c .before .before
+start-of c = c .before .before .before
 
 -- how far the line is read after each field
 abbrev after-row : tie.After-known-told → Progress
@@ -49,7 +49,7 @@ pub train-of-spec : {M : Type 1} → statement M
 train-of-spec =
     tie.close
     (tie.spec
-    (λ c κs. tt) (λ c. c .match .keys1) (λ c. c .match .keys2)
+    (λ c κs. tt) (λ c κs. tt) (λ c. c .match .keys1) (λ c. c .match .keys2)
     (λ c. missing (start (start-of (c .before .before) .args .line .now)) (c .before .before .number-at .ensures) (c .enum-told .given .1) refl)
     (λ c κs. tt) (λ c. c .match2 .keys1) (λ c. c .match2 .keys2)
     (λ c. missing (after-row (c .before .before .before)) (c .before .before .number-at2 .ensures) (c .enum-told2 .given .1) refl)
