@@ -507,6 +507,43 @@ static void test_text_form(void)
     expect_refusal_bytes("1 1\0\n" SEGMENT TRAIN, sizeof "1 1\0\n" SEGMENT TRAIN - 1, 2, 12, 1);
 }
 
+/* A line of so many words after the text before it: each a figure in no field's range, but for the word at a place, from 0. */
+static const char *line_of(const char *before, size_t words, size_t place, const char *word)
+{
+    static char text[300];
+    char *at = stpcpy(text, before);
+    for (size_t i = 0; i < words; i++) {
+        at = stpcpy(at, i == 0 ? "" : " ");
+        at = stpcpy(at, i == place ? word : "99999");
+    }
+    stpcpy(at, "\n");
+    return text;
+}
+
+/* 02's L3: a word out of form anywhere on a line, or a wrong count of numbers, comes before each figure's own number. */
+static void test_form_first(void)
+{
+    static const struct { const char *before; size_t figures; uint32_t first, line; } lines[] = {
+        { "1 1\n", FIGURES, 1, 2 },
+        { "1 1\n" SEGMENT, 5, 8, 3 },
+    };
+    for (size_t i = 0; i < sizeof lines / sizeof *lines; i++) {
+        for (size_t words = 1; words <= lines[i].figures + 2; words++)
+            expect_refusal(line_of(lines[i].before, words, words, ""), words == lines[i].figures ? lines[i].first : 12,
+                           lines[i].line);
+        for (size_t place = 0; place < lines[i].figures; place++)
+            expect_refusal(line_of(lines[i].before, lines[i].figures, place, "x"), 12, lines[i].line);
+    }
+    static const struct { const char *last; uint32_t number; } lasts[] = {
+        { " x", 12 }, { "", 12 }, { " 0 0", 12 }, { " 0", 1 },
+    };
+    for (size_t i = 0; i < sizeof lasts / sizeof *lasts; i++) {
+        char text[300];
+        snprintf(text, sizeof text, "1 1\n999 0 600 0 180 180 0 0 0 0 0 0 0 0%s\n" TRAIN, lasts[i].last);
+        expect_refusal(text, lasts[i].number, 2);
+    }
+}
+
 static void test_contents(void)
 {
     static const struct { const char *text; uint32_t number, line; } cases[] = {
@@ -669,6 +706,7 @@ int main(void)
     test_segment_refusals();
     test_far_wall();
     test_text_form();
+    test_form_first();
     test_contents();
     test_no_state_refusals();
     test_cells();

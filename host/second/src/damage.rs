@@ -24,41 +24,49 @@ fn joined(lines: &[Vec<u8>]) -> Vec<u8> {
     text
 }
 
-/// One line changed in its words.
-fn with_words(random: &mut Random, text: &[u8], change: impl Fn(&mut Random, &mut Vec<Vec<u8>>)) -> Vec<u8> {
+/// A line's words.
+type Words = Vec<Vec<u8>>;
+
+fn wrong_word(random: &mut Random, words: &mut Words) {
+    let place = random.below(words.len());
+    words[place] = random.pick(&BAD_WORDS).as_bytes().to_vec();
+}
+
+/// A good word with something before or after it.
+fn grown_word(random: &mut Random, words: &mut Words) {
+    let place = random.below(words.len());
+    let extra = random.pick(&["0", "-", "+", " ", "\t", "\r", "\0", "9", "\u{a0}"]).as_bytes();
+    let word = std::mem::take(&mut words[place]);
+    words[place] = if random.chance(50) { [extra, &word].concat() } else { [&word, extra].concat() };
+}
+
+fn wrong_count(random: &mut Random, words: &mut Words) {
+    if random.chance(50) {
+        words.pop();
+    } else {
+        words.push(b"0".to_vec());
+    }
+}
+
+/// The line at a place, from 0, changed in its words.
+fn with_words(random: &mut Random, text: &[u8], place: usize, change: fn(&mut Random, &mut Words)) -> Vec<u8> {
     let mut lines = lines_of(text);
-    let place = random.below(lines.len());
-    let mut words: Vec<Vec<u8>> = lines[place].split(|&byte| byte == b' ').map(<[u8]>::to_vec).collect();
+    let mut words: Words = lines[place].split(|&byte| byte == b' ').map(<[u8]>::to_vec).collect();
     change(random, &mut words);
     lines[place] = words.join(&b' ');
     joined(&lines)
 }
 
-fn wrong_word(random: &mut Random, text: &[u8]) -> Vec<u8> {
-    with_words(random, text, |random, words| {
-        let place = random.below(words.len());
-        words[place] = random.pick(&BAD_WORDS).as_bytes().to_vec();
-    })
+/// Some line changed in its words.
+fn with_some_words(random: &mut Random, text: &[u8], change: fn(&mut Random, &mut Words)) -> Vec<u8> {
+    let place = random.below(lines_of(text).len());
+    with_words(random, text, place, change)
 }
 
-/// A good word with something before or after it.
-fn grown_word(random: &mut Random, text: &[u8]) -> Vec<u8> {
-    with_words(random, text, |random, words| {
-        let place = random.below(words.len());
-        let extra = random.pick(&["0", "-", "+", " ", "\t", "\r", "\0", "9", "\u{a0}"]).as_bytes();
-        let word = std::mem::take(&mut words[place]);
-        words[place] = if random.chance(50) { [extra, &word].concat() } else { [&word, extra].concat() };
-    })
-}
-
-fn wrong_count(random: &mut Random, text: &[u8]) -> Vec<u8> {
-    with_words(random, text, |random, words| {
-        if random.chance(50) {
-            words.pop();
-        } else {
-            words.push(b"0".to_vec());
-        }
-    })
+/// The line at a place, from 0, out of form: whatever its figures are, that comes first (02, L3).
+pub fn out_of_form(random: &mut Random, text: &[u8], place: usize) -> Vec<u8> {
+    let change = random.pick(&[wrong_word as fn(&mut Random, &mut Words), grown_word, wrong_count]);
+    with_words(random, text, place, change)
 }
 
 /// A contents line written anew over the same study lines.
@@ -173,9 +181,9 @@ fn no_study(random: &mut Random) -> Vec<u8> {
 pub fn damage(random: &mut Random, draft: &Draft) -> (Vec<u8>, &'static str) {
     let text = draft.text();
     match random.below(11) {
-        0 | 1 => (wrong_word(random, &text), "wrong word"),
-        2 => (grown_word(random, &text), "grown word"),
-        3 => (wrong_count(random, &text), "wrong count"),
+        0 | 1 => (with_some_words(random, &text, wrong_word), "wrong word"),
+        2 => (with_some_words(random, &text, grown_word), "grown word"),
+        3 => (with_some_words(random, &text, wrong_count), "wrong count"),
         4 | 5 => (wrong_contents(random, draft), "wrong contents"),
         6 => (line_changed(random, &text), "line changed"),
         7 => (extra_line(random, &text), "extra line"),

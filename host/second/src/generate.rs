@@ -3,7 +3,7 @@
 
 use std::sync::OnceLock;
 
-use crate::damage::damage;
+use crate::damage::{damage, out_of_form};
 use crate::energy::{energy, Energy};
 use crate::levels::{segment_part, Period, Workings, PERIODS};
 use crate::spoil::{spoil_entry, spoil_segment};
@@ -613,17 +613,23 @@ fn cell_count(random: &mut Random, entries: usize) -> usize {
     }
 }
 
+/// One line's figures spoilt; the answer is the line's place in the text, from 0.
+fn spoil_line(random: &mut Random, draft: &mut Draft) -> usize {
+    let place = random.below(draft.segments.len());
+    let line = 1 + draft.segments[..place].iter().map(|(_, entries)| 1 + entries.len()).sum::<usize>();
+    let (segment, entries) = &mut draft.segments[place];
+    if entries.is_empty() || random.chance(60) {
+        spoil_segment(random, segment);
+        return line;
+    }
+    let chosen = random.below(entries.len());
+    spoil_entry(random, &mut entries[chosen]);
+    line + 1 + chosen
+}
+
 fn spoil(random: &mut Random, draft: &mut Draft) {
-    let times = random.pick(&[1, 1, 1, 2]);
-    for _ in 0..times {
-        let place = random.below(draft.segments.len());
-        let (segment, entries) = &mut draft.segments[place];
-        if entries.is_empty() || random.chance(60) {
-            spoil_segment(random, segment);
-        } else {
-            let chosen = random.below(entries.len());
-            spoil_entry(random, &mut entries[chosen]);
-        }
+    for _ in 0..random.pick(&[1, 1, 1, 2]) {
+        spoil_line(random, draft);
     }
 }
 
@@ -645,10 +651,15 @@ fn spoilt(random: &mut Random, mut draft: Draft) -> (Vec<u8>, &'static str) {
     (draft.text(), "spoilt figures")
 }
 
-/// A damaged text, at times of spoilt figures, and the name of the damage.
+/// A damaged text, at times of spoilt figures or with both faults on one line, and the name of the damage.
 fn damaged(random: &mut Random, mut draft: Draft) -> (Vec<u8>, &'static str) {
-    if random.chance(10) {
-        spoil(random, &mut draft);
+    match random.below(10) {
+        0 => {
+            let line = spoil_line(random, &mut draft);
+            return (out_of_form(random, &draft.text(), line), "both on a line");
+        }
+        1 => spoil(random, &mut draft),
+        _ => {}
     }
     damage(random, &draft)
 }

@@ -156,6 +156,15 @@ mod tests {
     }
 
     #[test]
+    fn form_comes_before_a_figure() {
+        let cases = [(" x", 12), ("", 12), (" 0 0", 12), (" 0", 1)];
+        for (last, number) in cases {
+            let text = format!("1 1\n999 0 600 0 180 180 0 0 0 0 0 0 0 0{last}\n1 100 1 1 1\n");
+            assert_eq!(refused(&text), (number, 2), "{text}");
+        }
+    }
+
+    #[test]
     fn lines_missing_extra_and_unended() {
         let good = format!("1 1\n{SEGMENT}1 100 1 1 1\n");
         assert_eq!(refused(&good), (0, 0));
