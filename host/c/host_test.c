@@ -104,8 +104,8 @@ static const railnoise_period silent_period = { true, 0, 0, false };
 /* Number, line, silent periods and untouched cells. */
 static void expect_refusal_bytes(const char *text, size_t length, size_t cell_count, uint32_t number, uint32_t line)
 {
-    char about[120];
-    snprintf(about, sizeof about, "refusal %u line %u of: %.60s", number, line, text);
+    char about[240];
+    snprintf(about, sizeof about, "refusal %u line %u of: %.160s", number, line, text);
     outcome o = ask_bytes(text, length, cell_count);
     if (!CHECK(o.answer.refusal == number && o.answer.line == line, about))
         printf("  got %u line %u\n", o.answer.refusal, o.answer.line);
@@ -507,8 +507,9 @@ static void test_text_form(void)
     expect_refusal_bytes("1 1\0\n" SEGMENT TRAIN, sizeof "1 1\0\n" SEGMENT TRAIN - 1, 2, 12, 1);
 }
 
-/* A line of so many words after the text before it: each a figure in no field's range, but for the word at a place, from 0. */
-static const char *line_of(const char *before, size_t words, size_t place, const char *word)
+/* The text that ends in a line of so many words, each a figure in no field's range; the word at a place, from 0
+ * and perhaps past them, is another. */
+static const char *text_with(const char *before, size_t words, size_t place, const char *word)
 {
     static char text[300];
     char *at = stpcpy(text, before);
@@ -520,19 +521,19 @@ static const char *line_of(const char *before, size_t words, size_t place, const
     return text;
 }
 
-/* 02's L3: a word out of form anywhere on a line, or a wrong count of numbers, comes before each figure's own number. */
+/* 01's 12 before all else within a line, as 02's L3 keeps it: for a word out of form anywhere, and for the count. */
 static void test_form_first(void)
 {
-    static const struct { const char *before; size_t figures; uint32_t first, line; } lines[] = {
+    static const struct { const char *before; size_t figures; uint32_t own, line; } lines[] = {
         { "1 1\n", FIGURES, 1, 2 },
         { "1 1\n" SEGMENT, 5, 8, 3 },
     };
     for (size_t i = 0; i < sizeof lines / sizeof *lines; i++) {
         for (size_t words = 1; words <= lines[i].figures + 2; words++)
-            expect_refusal(line_of(lines[i].before, words, words, ""), words == lines[i].figures ? lines[i].first : 12,
+            expect_refusal(text_with(lines[i].before, words, words, ""), words == lines[i].figures ? lines[i].own : 12,
                            lines[i].line);
         for (size_t place = 0; place < lines[i].figures; place++)
-            expect_refusal(line_of(lines[i].before, lines[i].figures, place, "x"), 12, lines[i].line);
+            expect_refusal(text_with(lines[i].before, lines[i].figures, place, "x"), 12, lines[i].line);
     }
     static const struct { const char *last; uint32_t number; } lasts[] = {
         { " x", 12 }, { "", 12 }, { " 0 0", 12 }, { " 0", 1 },

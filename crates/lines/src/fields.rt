@@ -1,4 +1,4 @@
-// A segment's line and a train entry's: each number goes to its field as it is read, or the line is refused there. What a field may hold is asked of the whole line, so that 12 comes before every other refusal.
+// A segment's line and a train entry's: each number goes to its field as it is read, or the line is refused there. Ranges are judged after the whole line is read, so that 12 comes first.
 ghost use mathlib.Core.Path.{_≡_};
 ghost use Rattle.lines.specs.Lines.{segmentOf, trainOf};
 use crate::numbers::Number;

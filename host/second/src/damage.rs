@@ -24,8 +24,9 @@ fn joined(lines: &[Vec<u8>]) -> Vec<u8> {
     text
 }
 
-/// A line's words.
+/// A line's words, and a change of them.
 type Words = Vec<Vec<u8>>;
+type Change = fn(&mut Random, &mut Words);
 
 fn wrong_word(random: &mut Random, words: &mut Words) {
     let place = random.below(words.len());
@@ -49,7 +50,7 @@ fn wrong_count(random: &mut Random, words: &mut Words) {
 }
 
 /// The line at a place, from 0, changed in its words.
-fn with_words(random: &mut Random, text: &[u8], place: usize, change: fn(&mut Random, &mut Words)) -> Vec<u8> {
+fn with_words(random: &mut Random, text: &[u8], place: usize, change: Change) -> Vec<u8> {
     let mut lines = lines_of(text);
     let mut words: Words = lines[place].split(|&byte| byte == b' ').map(<[u8]>::to_vec).collect();
     change(random, &mut words);
@@ -58,14 +59,14 @@ fn with_words(random: &mut Random, text: &[u8], place: usize, change: fn(&mut Ra
 }
 
 /// Some line changed in its words.
-fn with_some_words(random: &mut Random, text: &[u8], change: fn(&mut Random, &mut Words)) -> Vec<u8> {
+fn with_some_words(random: &mut Random, text: &[u8], change: Change) -> Vec<u8> {
     let place = random.below(lines_of(text).len());
     with_words(random, text, place, change)
 }
 
-/// The line at a place, from 0, out of form: whatever its figures are, that comes first (02, L3).
+/// The line at a place, from 0, out of form but for few changes: whatever its figures are, that comes first.
 pub fn out_of_form(random: &mut Random, text: &[u8], place: usize) -> Vec<u8> {
-    let change = random.pick(&[wrong_word as fn(&mut Random, &mut Words), grown_word, wrong_count]);
+    let change = random.pick::<Change>(&[wrong_word, grown_word, wrong_count]);
     with_words(random, text, place, change)
 }
 

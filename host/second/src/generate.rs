@@ -651,12 +651,12 @@ fn spoilt(random: &mut Random, mut draft: Draft) -> (Vec<u8>, &'static str) {
     (draft.text(), "spoilt figures")
 }
 
-/// A damaged text, at times of spoilt figures or with both faults on one line, and the name of the damage.
+/// A damaged text, at times of spoilt figures, or one line spoilt and out of form, and the name of the damage.
 fn damaged(random: &mut Random, mut draft: Draft) -> (Vec<u8>, &'static str) {
     match random.below(10) {
         0 => {
             let line = spoil_line(random, &mut draft);
-            return (out_of_form(random, &draft.text(), line), "both on a line");
+            return (out_of_form(random, &draft.text(), line), "spoilt and out of form");
         }
         1 => spoil(random, &mut draft),
         _ => {}
