@@ -47,7 +47,7 @@
  *
  * A train entry, in this order:
  *    1  vehicle row of Table A1.1, see below                      1 to 34
- *    2  speed                                        km/h         20 to 300
+ *    2  speed                                        km/h         1 to 300; below 20 it counts as 20
  *    3  vehicles of the train                                     1 to 60
  *    4  trains by day                                             0 to 2000
  *    5  trains by night                                           0 to 2000
@@ -107,7 +107,7 @@
 #define RAILNOISE_H
 
 /* The version, in this one place: railnoise.sh --version and the pkg-config file take it from here. */
-#define RAILNOISE_VERSION "0.3.0"
+#define RAILNOISE_VERSION "0.4.0"
 
 #include <stdbool.h>
 #include <stddef.h>
@@ -169,7 +169,7 @@ enum {
     RAILNOISE_READING = 7,         /* Table 1 reading not 0 to 150 tenths, ballast not -30 to 0 tenths,
                                       facade not 0 or 1, or the opposite angle not 0 to the angle of view */
     RAILNOISE_ROW = 8,             /* vehicle row is not 1 to 34 */
-    RAILNOISE_SPEED = 9,           /* speed is not 20 to 300 km/h */
+    RAILNOISE_SPEED = 9,           /* speed is not 1 to 300 km/h */
     RAILNOISE_VEHICLES = 10,       /* vehicles are not 1 to 60 */
     RAILNOISE_TRAINS = 11,         /* day or night trains are not 0 to 2000 */
     RAILNOISE_FORM = 12,           /* a number, a space or a line feed is out of form, a line has another
@@ -224,7 +224,7 @@ static inline const char *railnoise_refusal_words(uint32_t refusal)
                "or 1, and angle of opposite facades 0 degrees to the angle of view";
     case RAILNOISE_ROW:
         return "vehicle row must be 1 to 34: the row of Table A1.1, not its category number";
-    case RAILNOISE_SPEED: return "speed must be 20 to 300 km/h";
+    case RAILNOISE_SPEED: return "speed must be 1 to 300 km/h";
     case RAILNOISE_VEHICLES: return "vehicles of a train must be 1 to 60";
     case RAILNOISE_TRAINS: return "day trains and night trains must each be 0 to 2000";
     case RAILNOISE_FORM:

@@ -15,7 +15,7 @@ use Rattle.emission.specs.Trains.{trainsIn, sounds, hoursTenths, trainsF
 
 -- proved of every accepted train as `train-fences` in proofs/Fences.antt
 pub record TrainFences (t : Train) : Type 0 where
-  -- "31.2 + 20·log V"
+  -- "31.2 + 20·log V", V as counted
   pub speed : IsFence (AtLeast 31200000 20000000 (countedSpeed t) 1) (speedFence t)
   -- "10·log N"
   pub vehicles : IsFence (AtLeast 0 10000000 (up (t .vehicles)) 1) (vehiclesFence t)

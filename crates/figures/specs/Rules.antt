@@ -1,4 +1,4 @@
--- The lines that a segment and a train entry keep (01, "The study"; 02, L1), each bound by its name, and the first line that is not kept (01, "Turned back
+-- The lines that a segment and a train entry keep (01, "The study"; 02, L1 and L4), each bound by its name, and the first line that is not kept (01, "Turned back
 -- for a figure"). Line 6 needs the screen's lengths and stands with the screen (crate propagation).
 -- Assumes nothing.
 use mathlib.Core.Bool.{Bool, cond, _&&_, _||_}
@@ -66,12 +66,12 @@ mostTrack = 150
 abbrev pub lowestBallast : ℕ
 lowestBallast = 30
 
--- rows of Table A1.1, km/h, vehicles of a train, trains of a period
+-- rows of Table A1.1, km/h (L4: from 1), vehicles of a train, trains of a period
 abbrev pub mostRow : ℕ
 mostRow = 34
 
 abbrev pub leastSpeed : ℕ
-leastSpeed = 20
+leastSpeed = 1
 
 abbrev pub mostSpeed : ℕ
 mostSpeed = 300

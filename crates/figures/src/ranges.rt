@@ -53,7 +53,7 @@ const LOWEST_BALLAST: i32 = -30;
 const MOST_ROW: i32 = 34;
 
 // Speeds in km/h.
-const LEAST_SPEED: i32 = 20;
+const LEAST_SPEED: i32 = 1;
 
 const MOST_SPEED: i32 = 300;
 

@@ -2,7 +2,7 @@
 -- Assumes nothing.
 use mathlib.Core.Path.{_≡_, refl, _∙_, ap, ap₂}
 use mathlib.Core.Bool.{Bool, true, false}
-use Prim.Native.Nat.{ℕ, _+_, _-_, _*_, _/_, _^_}
+use Prim.Native.Nat.{ℕ, _+_, _-_, _*_, _/_, _^_, max}
 use native.Mathlib.Nat.{le-refl, mul-one}
 use native.Mathlib.Omega.{arith}
 use lib.Dec.{T, ltb, ltb→lt, lit<, lit≤}
@@ -30,7 +30,7 @@ use Rattle.propagation.specs.Air.{rootUp, airFence}
 use Rattle.propagation.specs.Opposite.{oppositeFence}
 use Rattle.propagation.specs.Ground.{groundFactor, grounded, groundFence, pathFence, GroundMarkBy, GroundMark}
 use Rattle.propagation.proofs.AirStep.{root-up-square}
-use Rattle.emission.specs.Speed.{countedSpeed, speedFence}
+use Rattle.emission.specs.Speed.{leastCounted, countedSpeed, speedFence}
 use Rattle.emission.specs.Vehicles.{vehiclesFence}
 use Rattle.emission.specs.Trains.{trainsIn, hoursTenths, trainsFence}
 use Rattle.request.specs.Levels.{limitOf, metBy}
@@ -38,9 +38,9 @@ use Rattle.request.specs.Readings.{Readings}
 
 -- ---- speed, vehicles and trains: two tests of powers each
 
-speed-at : (t : Train) (v : ℕ) → t .speed ≡ pos v → nearest (speedFence t) ≡ nearest (fence 31200000 20000000 v 1)
+speed-at : (t : Train) (v : ℕ) → t .speed ≡ pos v → nearest (speedFence t) ≡ nearest (fence 31200000 20000000 (max leastCounted v) 1)
 unfolding speedFence countedSpeed
-speed-at t v e = ap (λ (x : ℤ). nearest (fence 31200000 20000000 (up x) 1)) e
+speed-at t v e = ap (λ (x : ℤ). nearest (fence 31200000 20000000 (max leastCounted (up x)) 1)) e
 
 vehicles-at : (t : Train) (n : ℕ) → t .vehicles ≡ pos n → nearest (vehiclesFence t) ≡ nearest (fence 0 10000000 n 1)
 unfolding vehiclesFence

@@ -57,7 +57,7 @@ fn put_words(out: &mut [u8], at: usize, refusal: Refusal) -> usize
             at,
             b"vehicle row must be 1 to 34: the row of Table A1.1, not its category number",
         ),
-        Refusal::Speed => writing::put(out, at, b"speed must be 20 to 300 km/h"),
+        Refusal::Speed => writing::put(out, at, b"speed must be 1 to 300 km/h"),
         Refusal::Vehicles => writing::put(out, at, b"vehicles of a train must be 1 to 60"),
         Refusal::Trains => writing::put(
             out,
