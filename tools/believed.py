@@ -32,6 +32,7 @@ ROOTS = {
     "Readings": "the starred readings",
     "SilenceMeans": "what silence and a mark of emptiness mean for entitlement",
     "EntitlementCalls": "which refusals its C function gives, and that a marked text makes no difference",
+    "SlowTrains": "which speeds are refused, and that a train below 20 km/h is heard as at 20",
     "total-rises": "a total never falls where levels rise",
     "cells-rise": "the same over working cells",
     # the formulas are believed by these: contracts state fences and tenths by whole numbers alone, and these say whose they are

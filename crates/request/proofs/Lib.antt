@@ -11,3 +11,4 @@ pub mod Studies
 pub mod Entries
 pub mod Demand3
 pub mod Readings
+pub mod SlowTrains

@@ -1,0 +1,194 @@
+-- Which speeds are refused, and that a slow train is heard as at 20 km/h.
+-- Assumes nothing.
+use mathlib.Core.Path.{_≡_, refl, sym, _∙_, ap, ap₂, subst}
+use mathlib.Core.Logic.{inl, inr}
+use mathlib.Core.Bool.{Bool, true, false, cond, _&&_, and-false, false≢true}
+use mathlib.Core.List.{List, [], _∷_, map}
+use Prim.Native.Nat.{ℕ, suc, _<_}
+use native.Mathlib.Omega.{arith}
+use lib.Dec.{T}
+use lib.IntN.{ℤ, pos, negsuc, _+ℤ_}
+use lib.Signed.{leZ, ltZ, leZ-yes, _≤ℤ_, _<ℤ_}
+use Rattle.decibel.specs.Ints.{up}
+use Rattle.decibel.specs.Log.{fence}
+use Rattle.decibel.proofs.Ints.{ints}
+use Rattle.energy.proofs.Order.{le-true, le-false, less, not-less}
+use Rattle.figures.specs.declared.Segment.{Segment}
+use Rattle.figures.specs.declared.Train.{Train}
+use Rattle.figures.specs.declared.Period.{Period}
+use Rattle.figures.specs.declared.Period.the-variants.{Day, Night}
+use Rattle.figures.specs.Refusal.{checkNumber}
+use Rattle.figures.specs.Rules.{leastSpeed, mostSpeed, rowKept, speedKept, vehiclesKept, trainsKept, trainCheck, lowestNumber, trainLines}
+use Rattle.figures.proofs.Numbers.{train-number}
+use Rattle.propagation.specs.Propagation.{segmentBreakdownBy, addedUp, segmentFence}
+use Rattle.emission.specs.Rolling.{rollingTenths}
+use Rattle.emission.specs.Speed.{leastCounted, countedSpeed, speedFence}
+use Rattle.emission.specs.Vehicles.{vehiclesFence}
+use Rattle.emission.specs.Trains.{trainsIn, sounds, trainsFence, trainsLevel}
+use Rattle.emission.specs.Emission.{raised, trainPartsOf, trainBreakdownOf, emissionOf, trainFence}
+use Rattle.emission.proofs.SpeedStep.{slow-counted}
+use Rattle.study.specs.declared.Entry.{Entry}
+use Rattle.study.specs.Plan.{Plan, segmentAt}
+use Rattle.request.specs.Entry.{levelBy, entryFence}
+use Rattle.request.specs.Levels.{Marks, markAt, levelAt, levelsOf, heardAt, closeFrom, closeSegments, resultBy, groundMarks, ownMarks}
+use Rattle.request.specs.Accuracy.{fencesOf}
+use Rattle.request.specs.SlowTrains.{SpeedOut, isSlow, asCounted, entryAsCounted, planAsCounted, SlowTrains}
+
+-- ---- which speeds are refused
+
+out-refused : (t : Train) → SpeedOut t → speedKept t ≡ false
+unfolding speedKept
+out-refused t (inl h) = rw (le-false (pos leastSpeed) (t .speed) h) refl
+out-refused t (inr h) = rw (le-false (t .speed) (pos mostSpeed) h) (and-false (leZ (pos leastSpeed) (t .speed)))
+
+refused-out : (t : Train) → speedKept t ≡ false → SpeedOut t
+unfolding speedKept
+refused-out t e = go (ltZ (t .speed) (pos leastSpeed)) refl (ltZ (pos mostSpeed) (t .speed)) refl
+  where
+    go : (a : Bool) → ltZ (t .speed) (pos leastSpeed) ≡ a → (b : Bool) → ltZ (pos mostSpeed) (t .speed) ≡ b → SpeedOut t
+    go true p b q = inl (less (t .speed) (pos leastSpeed) p)
+    go false p true q = inr (less (pos mostSpeed) (t .speed) q)
+    go false p false q =
+        absurd (false≢true (sym e ∙ ap₂ _&&_ (le-true (pos leastSpeed) (t .speed) (not-less (t .speed) (pos leastSpeed) p)) (le-true (t .speed) (pos mostSpeed) (not-less (pos mostSpeed) (t .speed) q))))
+
+nine : (t : Train) → rowKept t ≡ true → SpeedOut t → checkNumber (trainCheck t) ≡ 9
+unfolding trainLines lowestNumber
+nine t row out = train-number t ∙ rw (row, out-refused t out) refl
+
+nine-only : (t : Train) → checkNumber (trainCheck t) ≡ 9 → (rowKept t ≡ true) × SpeedOut t
+unfolding trainLines lowestNumber
+nine-only t e = let b = go (rowKept t) (speedKept t) (vehiclesKept t) (trainsKept t) (sym (train-number t) ∙ e) in (b .0, refused-out t (b .1))
+  where
+    go : (row speed vehicles trains : Bool) → _≡_ {A = ℕ} (cond row (cond speed (cond vehicles (cond trains 0 11) 10) 9) 8) 9 → (row ≡ true) × (speed ≡ false)
+    go true true true true e = absurd (omega arith)
+    go true true true false e = absurd (omega arith)
+    go true true false trains e = absurd (omega arith)
+    go true false vehicles trains e = (refl, refl)
+    go false speed vehicles trains e = absurd (omega arith)
+
+-- ---- a slow train
+
+abbrev at20 : Train → Train
+at20 t = record { row = t .row; speed = pos leastCounted; vehicles = t .vehicles; day = t .day; night = t .night }
+
+-- what holds of a slow train at 20 km/h holds of every train as it counts
+by-slow : {A : Type 0} (f : Train → A) (t : Train) → (isSlow t ≡ true → f (at20 t) ≡ f t) → f (asCounted t) ≡ f t
+unfolding asCounted
+by-slow {A} f t h = go (isSlow t) refl
+  where
+    go : (b : Bool) → isSlow t ≡ b → f (cond b (at20 t) t) ≡ f t
+    go true e = h e
+    go false e = refl
+
+-- from 1 to 19 km/h
+slow-lies : (t : Train) → isSlow t ≡ true → (pos leastSpeed ≤ℤ t .speed) × (t .speed <ℤ pos leastCounted)
+unfolding isSlow
+slow-lies t = go (leZ (pos leastSpeed) (t .speed)) refl (ltZ (t .speed) (pos leastCounted)) refl
+  where
+    go : (a : Bool) → leZ (pos leastSpeed) (t .speed) ≡ a → (b : Bool) → ltZ (t .speed) (pos leastCounted) ≡ b → (a && b) ≡ true → (pos leastSpeed ≤ℤ t .speed) × (t .speed <ℤ pos leastCounted)
+    go true p true q e = (leZ-yes (subst T (sym p) tt), less (t .speed) (pos leastCounted) q)
+    go true p false q e = absurd (false≢true e)
+    go false p b q e = absurd (false≢true e)
+
+slow-kept : (t : Train) → isSlow t ≡ true → speedKept t ≡ true
+unfolding speedKept
+slow-kept t e =
+    let s = slow-lies t e in
+    ap₂ _&&_ (le-true (pos leastSpeed) (t .speed) (s .0)) (le-true (t .speed) (pos mostSpeed) (omega (arith, ints, s .1)))
+
+kept-20 : (t : Train) → speedKept (at20 t) ≡ true
+unfolding speedKept
+kept-20 t = refl
+
+slow-check : (t : Train) → isSlow t ≡ true → trainCheck (at20 t) ≡ trainCheck t
+unfolding trainCheck rowKept vehiclesKept trainsKept
+slow-check t e = rw (slow-kept t e, kept-20 t) refl
+
+check-same : (t : Train) → trainCheck (asCounted t) ≡ trainCheck t
+check-same t = by-slow trainCheck t (slow-check t)
+
+up-below : (z : ℤ) → z <ℤ pos leastCounted → up z < leastCounted
+up-below (pos n) h = omega (arith, ints)
+up-below (negsuc n) h = omega arith
+
+counted-20 : (t : Train) → countedSpeed (at20 t) ≡ leastCounted
+unfolding countedSpeed
+counted-20 t = refl
+
+slow-fence : (t : Train) → isSlow t ≡ true → speedFence (at20 t) ≡ speedFence t
+unfolding speedFence
+slow-fence t e = ap (λ (v : ℕ). fence 31200000 20000000 v 1) (counted-20 t ∙ slow-counted t refl (up-below (t .speed) (slow-lies t e .1)))
+
+parts-same : (t : Train) → trainPartsOf (asCounted t) ≡ trainPartsOf t
+unfolding trainPartsOf vehiclesFence rollingTenths trainsLevel sounds trainsFence trainsIn
+parts-same t = by-slow trainPartsOf t (λ e. rw (slow-fence t e) refl)
+
+emission-same : (p : Period) (t : Train) → emissionOf p (asCounted t) ≡ emissionOf p t
+unfolding emissionOf trainBreakdownOf
+emission-same p t = rw (check-same t, parts-same t) refl
+
+train-fence-same : (p : Period) (t : Train) → trainFence p (asCounted t) ≡ trainFence p t
+unfolding trainFence vehiclesFence rollingTenths trainsFence trainsIn
+train-fence-same Day t = by-slow (trainFence Day) t (λ e. rw (slow-fence t e) refl)
+train-fence-same Night t = by-slow (trainFence Night) t (λ e. rw (slow-fence t e) refl)
+
+sounds-same : (p : Period) (t : Train) → sounds p (asCounted t) ≡ sounds p t
+unfolding sounds trainsIn
+sounds-same Day t = by-slow (sounds Day) t (λ e. refl)
+sounds-same Night t = by-slow (sounds Night) t (λ e. refl)
+
+-- ---- its entry
+
+level-same : (p : Period) (s : Segment) (mark : Bool) (t : Train) → levelBy p s mark (asCounted t) ≡ levelBy p s mark t
+unfolding levelBy
+level-same p s mark t = ap (raised (addedUp (segmentBreakdownBy s mark))) (emission-same p t)
+
+fence-same : (p : Period) (s : Segment) (t : Train) → entryFence p s (asCounted t) ≡ entryFence p s t
+unfolding entryFence
+fence-same p s t = ap (λ (z : ℤ). segmentFence s +ℤ z) (train-fence-same p t)
+
+-- ---- the study
+
+levels-same : (p : Period) (plan : Plan) (m : Marks) → levelsOf p (planAsCounted plan) m ≡ levelsOf p plan m
+unfolding levelsOf levelAt
+levels-same p plan m = each (plan .entries)
+  where
+    each : (es : List Entry) → map (levelAt p (planAsCounted plan) m) (map entryAsCounted es) ≡ map (levelAt p plan m) es
+    each [] = refl
+    each (e ∷ es) = ap₂ _∷_ (level-same p (segmentAt plan (e .segment)) (markAt m (e .segment)) (e .train)) (each es)
+
+fences-same : (p : Period) (plan : Plan) (es : List Entry) → fencesOf p (planAsCounted plan) (map entryAsCounted es) ≡ fencesOf p plan es
+unfolding fencesOf
+fences-same p plan [] = refl
+fences-same p plan (e ∷ es) = rw (sounds-same p (e .train), fence-same p (segmentAt plan (e .segment)) (e .train), fences-same p plan es) refl
+
+heard-same : (p : Period) (k : ℕ) (es : List Entry) → heardAt p k (map entryAsCounted es) ≡ heardAt p k es
+unfolding heardAt
+heard-same p k [] = refl
+heard-same p k (e ∷ es) = rw (emission-same p (e .train), heard-same p k es) refl
+
+close-same : (p : Period) (plan : Plan) (m : Marks) (k : ℕ) (ss : List Segment) → closeFrom p (planAsCounted plan) m k ss ≡ closeFrom p plan m k ss
+unfolding closeFrom
+close-same p plan m k [] = refl
+close-same p plan m k (s ∷ ss) = rw (heard-same p k (plan .entries), close-same p plan m (suc k) ss) refl
+
+marks-same : (plan : Plan) → ownMarks (planAsCounted plan) ≡ ownMarks plan
+unfolding ownMarks groundMarks
+marks-same plan = rw (levels-same Day plan (groundMarks plan), levels-same Night plan (groundMarks plan)) refl
+
+result-same : (p : Period) (plan : Plan) (m : Marks) → resultBy p (planAsCounted plan) m ≡ resultBy p plan m
+unfolding resultBy closeSegments
+result-same p plan m = rw (levels-same p plan m, close-same p plan m 0 (plan .segments)) refl
+
+pub slow-trains : SlowTrains
+slow-trains =
+    record {
+      refused = λ t. (nine-only t, λ k. nine t (k .0) (k .1));
+      check = check-same;
+      level = level-same;
+      fence = fence-same;
+      levels = levels-same;
+      marks = marks-same;
+      result = result-same;
+      fences = λ p plan. fences-same p plan (plan .entries);
+    }

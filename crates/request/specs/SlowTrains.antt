@@ -1,0 +1,53 @@
+-- Trains that crawl (02, L4; the memorandum's footnote 4): which speeds are refused, and that a slower train is heard as at 20 km/h. Proved as `slow-trains` in
+-- proofs/SlowTrains.antt.
+-- Assumes nothing.
+use mathlib.Core.Path.{_≡_}
+use mathlib.Core.Logic.{_⊎_, _↔_}
+use mathlib.Core.Bool.{Bool, true, cond, _&&_}
+use mathlib.Core.List.{map}
+use lib.IntN.{pos}
+use lib.Signed.{leZ, ltZ, _<ℤ_}
+use Rattle.figures.specs.declared.Segment.{Segment}
+use Rattle.figures.specs.declared.Train.{Train}
+use Rattle.figures.specs.declared.Period.{Period}
+use Rattle.figures.specs.Refusal.{checkNumber}
+use Rattle.figures.specs.Rules.{leastSpeed, mostSpeed, rowKept, trainCheck}
+use Rattle.emission.specs.Speed.{leastCounted}
+use Rattle.study.specs.declared.Entry.{Entry}
+use Rattle.study.specs.Plan.{Plan}
+use Rattle.request.specs.Entry.{levelBy, entryFence}
+use Rattle.request.specs.Levels.{Marks, levelsOf, resultBy, ownMarks}
+use Rattle.request.specs.Accuracy.{fencesOf}
+
+-- below 1 or above 300 km/h
+abbrev pub SpeedOut : Train → Type 0
+SpeedOut t = (t .speed <ℤ pos leastSpeed) ⊎ (pos mostSpeed <ℤ t .speed)
+
+-- from 1 to 19 km/h
+unfoldable pub isSlow : Train → Bool
+isSlow t = leZ (pos leastSpeed) (t .speed) && ltZ (t .speed) (pos leastCounted)
+
+-- a slow train at 20 km/h, every other one as it is
+unfoldable pub asCounted : Train → Train
+asCounted t = cond (isSlow t) (record { row = t .row; speed = pos leastCounted; vehicles = t .vehicles; day = t .day; night = t .night }) t
+
+-- the same of an entry, and of all that a study holds
+abbrev pub entryAsCounted : Entry → Entry
+entryAsCounted e = record { segment = e .segment; train = asCounted (e .train) }
+
+abbrev pub planAsCounted : Plan → Plan
+planAsCounted plan = record { segments = plan .segments; entries = map entryAsCounted (plan .entries) }
+
+pub record SlowTrains : Type 0 where
+  -- 9 is given exactly where the speed is below 1 or above 300 and the row, which comes first, is in order
+  pub refused : (t : Train) → (checkNumber (trainCheck t) ≡ 9) ↔ ((rowKept t ≡ true) × SpeedOut t)
+  -- with 20 typed in place of a lower speed a train is judged as before
+  pub check : (t : Train) → trainCheck (asCounted t) ≡ trainCheck t
+  -- and its entry has the level that it had, in each period, in every segment and by any mark, and the fence
+  pub level : (p : Period) (s : Segment) (mark : Bool) (t : Train) → levelBy p s mark (asCounted t) ≡ levelBy p s mark t
+  pub fence : (p : Period) (s : Segment) (t : Train) → entryFence p s (asCounted t) ≡ entryFence p s t
+  -- so a study has the levels, the program's own marks and by any marks the results that it had, and the fences whose energies make the bare level
+  pub levels : (p : Period) (plan : Plan) (m : Marks) → levelsOf p (planAsCounted plan) m ≡ levelsOf p plan m
+  pub marks : (plan : Plan) → ownMarks (planAsCounted plan) ≡ ownMarks plan
+  pub result : (p : Period) (plan : Plan) (m : Marks) → resultBy p (planAsCounted plan) m ≡ resultBy p plan m
+  pub fences : (p : Period) (plan : Plan) → fencesOf p (planAsCounted plan) (planAsCounted plan .entries) ≡ fencesOf p plan (plan .entries)
