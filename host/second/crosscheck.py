@@ -86,7 +86,7 @@ def segment_refusal(n):
 
 
 def entry_refusal(n):
-    bounds = [(8, n[0], 1, 34), (9, n[1], 20, 300), (10, n[2], 1, 60), (11, n[3], 0, 2000), (11, n[4], 0, 2000)]
+    bounds = [(8, n[0], 1, 34), (9, n[1], 1, 300), (10, n[2], 1, 60), (11, n[3], 0, 2000), (11, n[4], 0, 2000)]
     return next((number for number, value, low, high in bounds if not low <= value <= high), 0)
 
 
@@ -225,7 +225,7 @@ def check_answered(segments, answer, cells, bare):
             if entry[3 + p] == 0:
                 expect(cell == -9999, "silent cell")
                 continue
-            parts = [31_200_000 + 20_000_000 * log(entry[1]), 10_000_000 * log(entry[2]), 10_000_000 * log(entry[3 + p])]
+            parts = [31_200_000 + 20_000_000 * log(max(entry[1], 20)), 10_000_000 * log(entry[2]), 10_000_000 * log(entry[3 + p])]
             fixed = ROWS[entry[0] - 1] - (481, 433)[p]
             tenths = worked[place][0] + sum(nearest(part) for part in parts) + fixed
             choices[place] = [choice for choice in choices[place] if choice[0] == cell - tenths]

@@ -157,6 +157,9 @@ const WALL: usize = 14;
 /// On either side of the first loss and of a metre's half, and at the ends.
 const WALLS: [i32; 10] = [1, 14, 15, 24, 25, 34, 35, 94, 95, 100];
 
+/// Trains that crawl, and both sides of the speed from which on a speed counts as typed.
+const SLOW_SPEEDS: [i32; 9] = [1, 2, 5, 10, 15, 18, 19, 20, 21];
+
 /// Good figures, anywhere in their ranges or leaning to the ends; no screen yet.
 fn open_segment(random: &mut Random, lean: bool) -> SegmentNumbers {
     let mut any = |low, high| if lean { random.leaning(low, high) } else { random.between(low, high) };
@@ -460,11 +463,14 @@ pub fn good_entry(random: &mut Random) -> EntryNumbers {
     };
     let mut entry = [
         any(1, 34, &[3, 7, 25, 34]),
-        any(20, 300, &stock.speeds),
+        any(1, 300, &stock.speeds),
         any(1, 60, &stock.vehicles),
         any(0, 2000, &stock.trains),
         any(0, 2000, &stock.trains),
     ];
+    if random.chance(10) {
+        entry[1] = random.pick(&SLOW_SPEEDS);
+    }
     if random.chance(15) {
         entry[3] = 0;
     }

@@ -67,7 +67,7 @@ pub fn spoil_segment(random: &mut Random, n: &mut SegmentNumbers) {
 pub fn spoil_entry(random: &mut Random, n: &mut EntryNumbers) {
     match random.below(6) {
         0 => n[0] = past(random, 1, 34),
-        1 => n[1] = past(random, 20, 300),
+        1 => n[1] = past(random, 1, 300),
         2 => n[2] = past(random, 1, 60),
         3 => n[3] = past(random, 0, 2000),
         4 => n[4] = past(random, 0, 2000),

@@ -1,4 +1,4 @@
-//! The steps of 01, with 02's L1. Each gives its fence (01's term): the largest whole number of
+//! The steps of 01, with 02's L1 and L4. Each gives its fence (01's term): the largest whole number of
 //! microdecibels not above the formula's exact value. Ties lie on whole microdecibels, so the nearest
 //! tenth of the fence is the nearest tenth of the exact value.
 
@@ -32,9 +32,10 @@ pub fn vehicle_row(row: i32) -> i64 {
     VEHICLE_TABLE[row as usize - 1]
 }
 
-/// 31.2 + 20·log V.
-pub fn speed(speed: i32) -> i64 {
-    31_200_000 + multiple_of_log(20_000_000, speed as u64, 1).whole
+/// 31.2 + 20·log V; a train below 20 km/h is taken at the level for 20.
+pub fn speed(typed: i32) -> i64 {
+    let counted = if typed < 20 { 20 } else { typed };
+    31_200_000 + multiple_of_log(20_000_000, counted as u64, 1).whole
 }
 
 /// 10·log N.
@@ -233,7 +234,7 @@ mod tests {
 
     #[test]
     fn readings_of_01() {
-        for (v, tenths) in [(20, 572), (100, 712), (150, 747), (300, 807)] {
+        for (v, tenths) in [(1, 572), (19, 572), (20, 572), (21, 576), (100, 712), (150, 747), (300, 807)] {
             assert_eq!(nearest_tenth(speed(v)), tenths);
         }
         for (n, tenths) in [(1, 0), (2, 30), (10, 100), (60, 178)] {

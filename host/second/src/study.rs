@@ -124,7 +124,7 @@ impl Entry {
         if !(1..=34).contains(&self.row) {
             return Some(8);
         }
-        if !(20..=300).contains(&self.speed) {
+        if !(1..=300).contains(&self.speed) {
             return Some(9);
         }
         if !(1..=60).contains(&self.vehicles) {

@@ -256,10 +256,10 @@ fn silent_exceeds_nothing_and_every_figure_exceeds_silent() {
 #[test]
 fn the_first_refused_text_is_named() {
     let good = both(670);
-    let slow = study(0, &["13 19 3 300 100"]);
-    let [good, slow, short] = [lines(&good), lines(&slow), lines("1 1\n")];
+    let standing = study(0, &["13 0 3 300 100"]);
+    let [good, standing, short] = [lines(&good), lines(&standing), lines("1 1\n")];
     let refused = |text, number, line| EntitlementAnswer::refused(text, Refusal { number, line });
-    let request = [good, slow, short, good];
+    let request = [good, standing, short, good];
     only(&request, refused(2, 9, 3));
     for (text, number, line) in [(1, 9, 3), (3, 9, 3), (0, 9, 3), (3, 13, 2), (2, 13, 2), (2, 9, 2), (2, 13, 3)] {
         not_allowed(&request, refused(text, number, line));
@@ -274,7 +274,7 @@ fn the_first_refused_text_is_named() {
         request[set] = short;
         only(&request, refused(set as u32 + 1, 13, 2));
         // What comes before it is not looked at.
-        request[..set].fill(Lines { empty: true, ..slow });
+        request[..set].fill(Lines { empty: true, ..standing });
         only(&request, refused(set as u32 + 1, 13, 2));
     }
     let long = "9".repeat(16_385);
