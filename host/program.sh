@@ -106,6 +106,10 @@ answered '67.4 by day is not met' "1 1\n$near 135 0 1 0 0\n1 150 10 1 0\n" '67.4
 answered '62.5 by night is met' "1 1\n$near 38 0 1 0 0\n1 150 10 0 1\n" 'silent 0 no' '62.5 0 yes'
 answered '62.4 by night is not met' "1 1\n$near 37 0 1 0 0\n1 150 10 0 1\n" 'silent 0 no' '62.4 0 no'
 
+# 14.8 + 57.2 - 48.1 or - 43.3: below 20 km/h a train is heard as at 20.
+answered 'a train that crawls' "1 1\n$near 0 0 0 0 0\n1 7 1 1 1\n" '23.9 0 no' '28.7 0 no'
+answered 'a train at 20 km/h' "1 1\n$near 0 0 0 0 0\n1 20 1 1 1\n" '23.9 0 no' '28.7 0 no'
+
 # 10.8 + 70.8 + 10.8 + 16.0 - 48.1 - 3.9 - 0.3 - 1.8 + 2.5 + 0.2 is 57.0 by day before the screen; 7 trains by night are
 # 2.7 less. The screen is -14.7, and 1.0 goes off it behind a far wall of 15 decimetres, 2 m to the nearest metre.
 cut='6200 150 300 4 90 120 1 900 260 0 0 0 1 10'
@@ -119,8 +123,8 @@ run 'full study' "$(lines '133.9 0 yes' '138.7 0 yes')"
 full 301 >"$text"
 run 'refused at the last line of a full study' 'refused 9 line 121\n'
 
-refused 'speed 19' "1 1\n$near 0 0 0 0 0\n1 19 1 1 1\n" 9 3
-grep -qx 'railnoise: refused 9 line 3: speed must be 20 to 300 km/h' "$noticed" || { echo 'WRONG: the words of refusal 9'; wrong=$((wrong + 1)); }
+refused 'speed 0' "1 1\n$near 0 0 0 0 0\n1 0 1 1 1\n" 9 3
+grep -qx 'railnoise: refused 9 line 3: speed must be 1 to 300 km/h' "$noticed" || { echo 'WRONG: the words of refusal 9'; wrong=$((wrong + 1)); }
 refused 'two digits of a refusal' "1 1\n$near 0 0 0 0 0\n1 100 61 1 1\n" 10 3
 refused 'distance 999' '1 1\n999 0 600 0 180 180 0 0 0 0 0 0 0 0 0\n1 100 1 1 1\n' 1 2
 refused 'far wall without a screen' "1 1\n$near 0 0 0 0 20\n1 100 1 1 1\n" 5 2

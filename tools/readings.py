@@ -28,6 +28,7 @@ REFUSED = re.compile(r"refused (?P<number>\d+) line (?P<line>\d+)")
 ADDED = re.compile(r"(?P<name>segment|train|levels|entitlement) (?P<answer>accepted|refused \d+)")
 CONDITIONS = re.compile(
     r"(?P<period>day|night) prevailing (?P<prevailing>\S+) relevant (?P<relevant>\S+) reaches (?P<reaches>yes|no) rises (?P<rises>yes|no) contributes (?P<contributes>yes|no) entitled (?P<entitled>yes|no)")
+KEPT = re.compile(r"kept speed (?P<kept>\d+)")
 HOUSE = re.compile(r"house (?P<house>yes|no)")
 # What 10 log Q is above the trains step, in tenths.
 HOURS = {"day": 481, "night": 433}
@@ -124,7 +125,7 @@ def found_in(lines, text):
             found[m["name"]] = m["answer"]
         elif m := CONDITIONS.fullmatch(line):
             found[m["period"]] = m.groupdict()
-        elif m := HOUSE.fullmatch(line):
+        elif m := HOUSE.fullmatch(line) or KEPT.fullmatch(line):
             found |= m.groupdict()
         elif line != "period level close met":
             sys.exit("not a line of a breakdown: " + line)

@@ -133,7 +133,7 @@ def segment_choices(segment):
 def day_emission(train):
     """The fence and the tenths of a train's steps by day."""
     row, speed, vehicles, trains, _ = train
-    steps = [Decimal("31.2") + 20 * log(speed), 10 * log(vehicles), 10 * log(trains) - Decimal("48.1")]
+    steps = [Decimal("31.2") + 20 * log(max(20, speed)), 10 * log(vehicles), 10 * log(trains) - Decimal("48.1")]
     return (sum(map(fence, steps)) + TENTH * ROLLINGS[row - 1], sum(nearest(fence(step)) for step in steps) + ROLLINGS[row - 1])
 
 
@@ -287,7 +287,8 @@ def farthest(studies, sign, report):
 
 
 def search(sign, mark, report):
-    """The study that lies farthest to one side among those that were tried: the segment first, with one plain train, then the trains."""
+    """The study that lies farthest to one side among those that were tried: the segment first, with one plain train, then the trains.
+    Lower speeds than 20 count as 20, and so add no error."""
     _, speed = ranked(((error(31.2 + 20 * math.log10(v)), v) for v in range(20, 301)), sign)[0]
     _, vehicles = ranked(((error(10 * math.log10(n)), n) for n in range(1, 61)), sign)[0]
     segment, _ = farthest([(segment, [[1, 100, 10, 1, 0]]) for segment in segments(sign, mark)], sign, report)

@@ -253,6 +253,7 @@ static void test_steps(void)
 static void test_trains(void)
 {
     static const struct { int field; int32_t value, day; const char *about; } cases[] = {
+        { 1, 1, 148 + 572 - 481, "speed 1" },     { 1, 19, 148 + 572 - 481, "speed 19" },
         { 1, 20, 148 + 572 - 481, "speed 20" },   { 1, 100, 148 + 712 - 481, "speed 100" },
         { 1, 150, 148 + 747 - 481, "speed 150" }, { 1, 300, 148 + 807 - 481, "speed 300" },
         { 2, 1, PLAIN_DAY, "N 1" },               { 2, 2, PLAIN_DAY + 30, "N 2" },
@@ -269,6 +270,28 @@ static void test_trains(void)
         outcome o = ask(one(plain_segment, train), 2);
         expect_period(o.answer.day, cases[i].day, 0, cases[i].day >= 675, cases[i].about);
     }
+}
+
+/* 02's L4: from 1 to 19 km/h a train is heard as at 20, alone and beside a faster one. */
+static void test_slow_trains(void)
+{
+    static const int32_t segment[FIGURES] = { 2600, 180, 420, 3, 160, 170, 0, 0, 0, 0, 0, 0, 1, 0, 0 };
+    char text[300];
+    for (int32_t speed = 1; speed <= 21; speed++) {
+        int32_t louder = speed > 20 ? 4 : 0;
+        outcome o = ask(one(segment, (const int32_t[5]){ 4, speed, 9, 60, 8 }), 2);
+        expect_period(o.answer.day, 495 + louder, 0, false, "a slow train by day");
+        expect_period(o.answer.night, 455 + louder, 0, false, "a slow train by night");
+        CHECK(o.cells[0] == 495 + louder && o.cells[1] == 455 + louder, "a slow train's cells");
+        /* 14.8 + 57.2 - 48.1, or 57.6 at 21, beside 14.8 + 59.2 - 48.1 */
+        snprintf(text, sizeof text, "1 2\n" SEGMENT "1 %d 1 1 0\n1 25 1 1 0\n", speed);
+        o = ask(text, 4);
+        CHECK(o.cells[0] == 239 + louder && o.cells[1] == 259, "a slow train beside another");
+        expect_period(o.answer.day, speed > 20 ? 282 : 280, 0, false, "a slow train in the total");
+    }
+    static const int32_t refused[] = { 0, -1, -5, -20, 301 };
+    for (size_t i = 0; i < sizeof refused / sizeof *refused; i++)
+        expect_refusal(one(segment, (const int32_t[5]){ 4, refused[i], 9, 60, 8 }), 9, 3);
 }
 
 /* 67.5 is met by day and 67.4 is not; 62.5 by night and 62.4 not. Levels below zero have their sign. */
@@ -359,7 +382,7 @@ static void test_ranges(void)
         { 10, 0, 150, 7, true },  { 11, 0, 0, 5, false }, { 12, 0, 1, 7, false },   { 14, 0, 100, 5, true },
     };
     static const range_case train_fields[] = {
-        { 0, 1, 34, 8, true },     { 1, 20, 300, 9, true },   { 2, 1, 60, 10, true },
+        { 0, 1, 34, 8, true },     { 1, 1, 300, 9, true },   { 2, 1, 60, 10, true },
         { 3, 0, 2000, 11, true }, { 4, 0, 2000, 11, true },
     };
     for (size_t i = 0; i < sizeof open_fields / sizeof *open_fields; i++)
@@ -408,7 +431,7 @@ static void test_segment_refusals(void)
         else
             CHECK(ask(text, 2).answer.refusal == 0, text);
     }
-    expect_refusal(one(plain_segment, (const int32_t[5]){ 0, 19, 0, -1, -1 }), 8, 3);
+    expect_refusal(one(plain_segment, (const int32_t[5]){ 0, 0, 0, -1, -1 }), 8, 3);
     expect_refusal(one(plain_segment, (const int32_t[5]){ 34, 301, 61, 2001, 0 }), 9, 3);
     expect_refusal(one(plain_segment, (const int32_t[5]){ 34, 300, 61, 2001, 0 }), 10, 3);
 }
@@ -478,7 +501,7 @@ static void test_text_form(void)
         snprintf(text, sizeof text, "1 1\n" SEGMENT "1 100 1 1 %s\n", words[i]);
         expect_refusal(text, 12, 3);
         /* Within a line 12 comes before the figures' numbers. */
-        snprintf(text, sizeof text, "1 1\n" SEGMENT "99 19 %s 1 1\n", words[i]);
+        snprintf(text, sizeof text, "1 1\n" SEGMENT "99 0 %s 1 1\n", words[i]);
         expect_refusal(text, 12, 3);
         snprintf(text, sizeof text, "1 %s\n" SEGMENT TRAIN, words[i]);
         expect_refusal(text, 12, 1);
@@ -500,7 +523,7 @@ static void test_text_form(void)
         { "1 1\n\n" TRAIN, 12, 2 },
         /* A refused line ends the reading: what follows does not matter. */
         { "1 1\n999 0 600 0 180 180 0 0 0 0 0 0 0 0 0\nx\n", 1, 2 },
-        { "1 1\n" SEGMENT "1 19 1 1 1\nx", 9, 3 },
+        { "1 1\n" SEGMENT "1 0 1 1 1\nx", 9, 3 },
     };
     for (size_t i = 0; i < sizeof cases / sizeof *cases; i++)
         expect_refusal(cases[i].text, cases[i].number, cases[i].line);
@@ -596,7 +619,7 @@ static void test_cells(void)
     outcome o = ask(sample, 20);
     CHECK(o.answer.refusal == 0 && all(o.cells + 6, 14, UNTOUCHED), "cells past 2t");
     /* A text's refusal comes before 24. */
-    expect_refusal_bytes("1 1\n" SEGMENT "1 19 1 1 1\n", sizeof "1 1\n" SEGMENT "1 19 1 1 1\n" - 1, 0, 9, 3);
+    expect_refusal_bytes("1 1\n" SEGMENT "1 0 1 1 1\n", sizeof "1 1\n" SEGMENT "1 0 1 1 1\n" - 1, 0, 9, 3);
     /* Silent entries need cells as well. */
     expect_refusal_bytes("1 1\n" SEGMENT "1 100 1 0 0\n", sizeof "1 1\n" SEGMENT "1 100 1 0 0\n" - 1, 1, 24, 0);
     static char text[RAILNOISE_TEXT_LIMIT];
@@ -701,6 +724,7 @@ int main(void)
     test_examples();
     test_steps();
     test_trains();
+    test_slow_trains();
     test_verdicts();
     test_silence();
     test_ranges();

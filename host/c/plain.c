@@ -161,7 +161,7 @@ static uint32_t entry_refusal(const long *n)
 {
     if (!within(n[0], 1, 34))
         return 8;
-    if (!within(n[1], 20, 300))
+    if (!within(n[1], 1, 300))
         return 9;
     if (!within(n[2], 1, 60))
         return 10;
@@ -207,7 +207,8 @@ static void work_out_segment(segment *s)
 static void work_out_entry(const study *s, entry *e)
 {
     e->tenths = s->segments[e->segment].tenths + vehicle_table[e->row - 1];
-    e->tenths += nearest_tenth(31.2 + 20.0 * log10((double)e->speed));
+    long counted = e->speed < 20 ? 20 : e->speed;
+    e->tenths += nearest_tenth(31.2 + 20.0 * log10((double)counted));
     e->tenths += nearest_tenth(10.0 * log10((double)e->vehicles));
 }
 

@@ -434,7 +434,7 @@ static void test_marked_texts(void)
     memset(long_text, '7', sizeof long_text);
     lines texts[] = {
         none, typed(""), { "\0\xff\n\n-1 2", 8, true }, { long_text, sizeof long_text, true }, both(720),
-        typed("1 1\n" SEGMENT "1 19 1 1 1\n"), typed("1 1\n" SEGMENT "1 100 1 1 1"),
+        typed("1 1\n" SEGMENT "1 0 1 1 1\n"), typed("1 1\n" SEGMENT "1 100 1 1 1"),
     };
     const struct { period day, night; const char *about; } expected[SETS] = {
         { levels(638, 688, "yyy"), levels(621, 647, "yyy"), "altered lines before not looked at" },

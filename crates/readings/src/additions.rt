@@ -1,4 +1,4 @@
-// Refusals by the study's condition, 20 to 24, which no text can show: a study by additions, and the request for its levels.
+// What no text can show: refusals by the study's condition, 20 to 24, of additions and of the request for levels, and the speed that a study keeps.
 use crate::put;
 use figures::Check;
 use figures::Segment;
@@ -144,10 +144,28 @@ fn show_requests(cells: &mut [i32], few: &mut [i32]) {
     show_trial(b"# Additions: no entry with 3 cells\n", 0, 999, 0, 1, few);
 }
 
+// A train that crawls: writes the speed that the study then holds.
+fn show_kept() {
+    put(b"# Additions: a train at 7 km/h\n");
+    let mut train = plain_train(1);
+    train.speed = 7;
+    let added = study::add_train(with_segments(1), train);
+    let check = added.check;
+    let held = study::holdings_of(added.study);
+    let entries = held.entries;
+    let entry = entries[0];
+    let kept = entry.train;
+    show(b"train", check);
+    put(b"kept speed ");
+    io::print_decimal(STDOUT_FILENO, figures::natural(kept.speed));
+    put(b"\n");
+}
+
 pub(crate) fn show_each() {
     let mut cells = [0i32; 192];
     let mut few = [0i32; 3];
     show_segments(&mut cells);
     show_entries(&mut cells);
     show_requests(&mut cells, &mut few);
+    show_kept();
 }
