@@ -7,8 +7,8 @@
   figures; the screen has values and no range.
 - README.md, docs/PLANNER.md, docs/RULES.md and the header have a table of them each, with units.
 - The header's comment of each refusal, its words, and `wordsOf` name the ranges of its figures.
-- LIMITS are those of a study (`ours`), of a text's bytes (`readText`), of its working cells (`cellsNeeded`), and the numbers on a
-  segment's and a train's line (`segmentOf`, `trainOf`). STATED has where they stand.
+- LIMITS are those of a study (`ours`), of a text's bytes (`readText`), of its working cells (`cellsNeeded`), the numbers on a
+  segment's and a train's line (`segmentOf`, `trainOf`), and the least speed that counts (`leastCounted`). STATED has where they stand.
 - host/c/plain.c has the same ranges, and host/c/host_test.c tries both ends of each.
 """
 import pathlib
@@ -104,6 +104,7 @@ LIMITS = {
     "late_entry": ENTRIES + 1,
     "figures": int(spec(r"^segmentOf line = segmentAs \(exactly (\d+) \(")[1]),
     "train_figures": int(spec(r"^trainOf line = trainAs \(exactly (\d+) \(")[1]),
+    "counted": int(spec(r"^leastCounted = (\d+)$")[1]),
 }
 WORDED = [
     "a segment has {figures} numbers, a train {train_figures}, line 1 one more",
@@ -117,11 +118,14 @@ STATED = {
     "README.md": [
         "up to {segments} segments of track and {entries} train entries",
         "each segment's line of {figures} numbers with its train lines of {train_figures} numbers",
+        "speed; below {counted} it counts as {counted}",
     ],
-    "docs/PLANNER.md": ["the open segment: {figures} numbers", "The {figures} numbers of a segment's line", "The {train_figures} numbers of a train line"],
+    "docs/PLANNER.md": ["the open segment: {figures} numbers", "The {figures} numbers of a segment's line", "The {train_figures} numbers of a train line",
+                        "speed; [below {counted}](#trains-that-crawl) it counts as {counted}", "Below {counted} km/h it counts as {counted},"],
     "docs/RULES.md": [
         "A segment has {figures} figures",
         "A train entry has {train_figures} figures",
+        "A speed below {counted} km/h counts as {counted} ",
         "each segment's line of {figures} numbers, and after it its train lines of {train_figures} numbers",
         "up to {segments} segments and up to {entries} train entries in all",
         "A text has at most {bytes:,} bytes",
@@ -136,6 +140,7 @@ STATED = {
         "number of segments, 1 to {segments}, then for each segment the number of its train entries,",
         "train entries, 0 to {entries} each and 1 to {entries} in all",
         "Each segment's line of {figures} numbers follows, and after it the lines of its train entries, {train_figures} numbers each",
+        "below {counted} it counts as {counted}",
         "#define RAILNOISE_TEXT_LIMIT {bytes} ",
         "#define RAILNOISE_SEGMENT_LIMIT {segments} ",
         "#define RAILNOISE_ENTRY_LIMIT {entries} ",
@@ -147,7 +152,7 @@ STATED = {
         *WORDED,
     ],
     "crates/words/specs/Words.antt": WORDED,
-    "host/c/plain.c": ["#define MOST_SEGMENTS {segments} ", "#define MOST_ENTRIES {entries} "],
+    "host/c/plain.c": ["#define MOST_SEGMENTS {segments} ", "#define MOST_ENTRIES {entries} ", "e->speed < {counted} ? {counted} : e->speed"],
 }
 
 
