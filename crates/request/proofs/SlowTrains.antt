@@ -3,11 +3,12 @@
 use mathlib.Core.Path.{_≡_, refl, sym, _∙_, ap, ap₂, subst}
 use mathlib.Core.Logic.{inl, inr}
 use mathlib.Core.Bool.{Bool, true, false, cond, _&&_, and-false, false≢true}
-use mathlib.Core.List.{List, [], _∷_, map}
-use Prim.Native.Nat.{ℕ, suc, _<_}
+use mathlib.Core.List.{List, [], _∷_, map, map-append}
+use Prim.Native.Nat.{ℕ, suc, _-_, _<_}
 use native.Mathlib.Omega.{arith}
 use lib.Dec.{T}
 use lib.IntN.{ℤ, pos, negsuc, _+ℤ_}
+use lib.ListN.{length, length-map}
 use lib.Signed.{leZ, ltZ, leZ-yes, _≤ℤ_, _<ℤ_}
 use Rattle.decibel.specs.Ints.{up}
 use Rattle.decibel.specs.Log.{fence}
@@ -17,6 +18,8 @@ use Rattle.figures.specs.declared.Segment.{Segment}
 use Rattle.figures.specs.declared.Train.{Train}
 use Rattle.figures.specs.declared.Period.{Period}
 use Rattle.figures.specs.declared.Period.the-variants.{Day, Night}
+use Rattle.figures.specs.declared.Check.{Check}
+use Rattle.figures.specs.declared.Check.the-variants.{Accepted, Refused}
 use Rattle.figures.specs.Refusal.{checkNumber}
 use Rattle.figures.specs.Rules.{leastSpeed, mostSpeed, rowKept, speedKept, vehiclesKept, trainsKept, trainCheck, lowestNumber, trainLines}
 use Rattle.figures.proofs.Numbers.{train-number}
@@ -28,11 +31,15 @@ use Rattle.emission.specs.Trains.{trainsIn, sounds, trainsFence, trainsLevel}
 use Rattle.emission.specs.Emission.{raised, trainPartsOf, trainBreakdownOf, emissionOf, trainFence}
 use Rattle.emission.proofs.SpeedStep.{slow-counted}
 use Rattle.study.specs.declared.Entry.{Entry}
-use Rattle.study.specs.Plan.{Plan, segmentAt}
+use Rattle.study.specs.Plan.{Plan, emptyPlan, segmentAt, planOf}
+use Rattle.study.specs.Add.{Limits, ours, trainAnswer}
+use Rattle.study.specs.Run.{Addition, segment, train, run, kept, extend, extendAll, accepted}
+use Rattle.study.proofs.Runs.{run-accepted}
 use Rattle.request.specs.Entry.{levelBy, entryFence}
 use Rattle.request.specs.Levels.{Marks, markAt, levelAt, levelsOf, heardAt, closeFrom, closeSegments, resultBy, groundMarks, ownMarks}
 use Rattle.request.specs.Accuracy.{fencesOf}
-use Rattle.request.specs.SlowTrains.{SpeedOut, isSlow, asCounted, entryAsCounted, planAsCounted, SlowTrains}
+use Rattle.request.specs.SlowTrains.{SpeedOut, isSlow, asCounted, additionAsCounted, entryAsCounted, planAsCounted, SlowTrains}
+use Rattle.request.proofs.Demand3.{ours-fit}
 
 -- ---- which speeds are refused
 
@@ -147,6 +154,34 @@ fence-same : (p : Period) (s : Segment) (t : Train) → entryFence p s (asCounte
 unfolding entryFence
 fence-same p s t = ap (λ (z : ℤ). segmentFence s +ℤ z) (train-fence-same p t)
 
+-- ---- what is added
+
+kept-same : (c : Check) (old new : Plan) → kept c (planAsCounted old) (planAsCounted new) ≡ planAsCounted (kept c old new)
+unfolding kept
+kept-same Accepted old new = refl
+kept-same (Refused r) old new = refl
+
+answer-same : (l : Limits) (count : ℕ) (es : List Entry) (t : Train) → trainAnswer l count (length (map entryAsCounted es)) (asCounted t) ≡ trainAnswer l count (length es) t
+unfolding trainAnswer
+answer-same l count es t = rw (length-map es entryAsCounted, check-same t) refl
+
+extend-same : (l : Limits) (p : Plan) (a : Addition) → extend l (planAsCounted p) (additionAsCounted a) ≡ planAsCounted (extend l p a)
+unfolding extend additionAsCounted
+extend-same l p (segment s) = kept-same _ p _
+extend-same l p (train t) = rw (answer-same l (length (p .segments)) (p .entries) t, ← map-append entryAsCounted (p .entries) (last ∷ [])) (kept-same _ p _)
+  where
+    last : Entry
+    last = record { segment = length (p .segments) - 1; train = t }
+
+all-same : (l : Limits) (p : Plan) (additions : List Addition) → extendAll l (planAsCounted p) (map additionAsCounted additions) ≡ planAsCounted (extendAll l p additions)
+unfolding extendAll
+all-same l p [] = refl
+all-same l p (a ∷ rest) = ap (λ (q : Plan). extendAll l q (map additionAsCounted rest)) (extend-same l p a) ∙ all-same l (extend l p a) rest
+
+typed-same : (additions : List Addition) → planOf (run ours (map additionAsCounted additions)) ≡ planAsCounted (planOf (run ours additions))
+unfolding accepted
+typed-same additions = rw (run-accepted ours ours-fit (map additionAsCounted additions), run-accepted ours ours-fit additions) (all-same ours emptyPlan additions)
+
 -- ---- the study
 
 levels-same : (p : Period) (plan : Plan) (m : Marks) → levelsOf p (planAsCounted plan) m ≡ levelsOf p plan m
@@ -187,6 +222,7 @@ slow-trains =
       check = check-same;
       level = level-same;
       fence = fence-same;
+      typed = typed-same;
       levels = levels-same;
       marks = marks-same;
       result = result-same;

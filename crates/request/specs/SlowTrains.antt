@@ -4,7 +4,7 @@
 use mathlib.Core.Path.{_≡_}
 use mathlib.Core.Logic.{_⊎_, _↔_}
 use mathlib.Core.Bool.{Bool, true, cond, _&&_}
-use mathlib.Core.List.{map}
+use mathlib.Core.List.{List, map}
 use lib.IntN.{pos}
 use lib.Signed.{leZ, ltZ, _<ℤ_}
 use Rattle.figures.specs.declared.Segment.{Segment}
@@ -14,7 +14,9 @@ use Rattle.figures.specs.Refusal.{checkNumber}
 use Rattle.figures.specs.Rules.{leastSpeed, mostSpeed, rowKept, trainCheck}
 use Rattle.emission.specs.Speed.{leastCounted}
 use Rattle.study.specs.declared.Entry.{Entry}
-use Rattle.study.specs.Plan.{Plan}
+use Rattle.study.specs.Plan.{Plan, planOf}
+use Rattle.study.specs.Add.{ours}
+use Rattle.study.specs.Run.{Addition, segment, train, run}
 use Rattle.request.specs.Entry.{levelBy, entryFence}
 use Rattle.request.specs.Levels.{Marks, levelsOf, resultBy, ownMarks}
 use Rattle.request.specs.Accuracy.{fencesOf}
@@ -31,7 +33,11 @@ isSlow t = leZ (pos leastSpeed) (t .speed) && ltZ (t .speed) (pos leastCounted)
 unfoldable pub asCounted : Train → Train
 asCounted t = cond (isSlow t) (record { row = t .row; speed = pos leastCounted; vehicles = t .vehicles; day = t .day; night = t .night }) t
 
--- the same of an entry, and of all that a study holds
+-- the same of what is added, of an entry, and of all that a study holds
+unfoldable pub additionAsCounted : Addition → Addition
+additionAsCounted (segment s) = segment s
+additionAsCounted (train t) = train (asCounted t)
+
 abbrev pub entryAsCounted : Entry → Entry
 entryAsCounted e = record { segment = e .segment; train = asCounted (e .train) }
 
@@ -41,12 +47,14 @@ planAsCounted plan = record { segments = plan .segments; entries = map entryAsCo
 pub record SlowTrains : Type 0 where
   -- 9 is given exactly where the speed is below 1 or above 300 and the row, which comes first, is in order
   pub refused : (t : Train) → (checkNumber (trainCheck t) ≡ 9) ↔ ((rowKept t ≡ true) × SpeedOut t)
-  -- with 20 typed in place of a lower speed a train is judged as before
+  -- with 20 typed in place of each lower speed a train is judged as it was
   pub check : (t : Train) → trainCheck (asCounted t) ≡ trainCheck t
-  -- and its entry has the level that it had, in each period, in every segment and by any mark, and the fence
+  -- its entry has the level that it had, in each period, in every segment and by any mark, and the fence
   pub level : (p : Period) (s : Segment) (mark : Bool) (t : Train) → levelBy p s mark (asCounted t) ≡ levelBy p s mark t
   pub fence : (p : Period) (s : Segment) (t : Train) → entryFence p s (asCounted t) ≡ entryFence p s t
-  -- so a study has the levels, the program's own marks and by any marks the results that it had, and the fences whose energies make the bare level
+  -- a list of additions makes the study that it made, but for those speeds: what was refused is refused, and nothing else is
+  pub typed : (additions : List Addition) → planOf (run ours (map additionAsCounted additions)) ≡ planAsCounted (planOf (run ours additions))
+  -- and whatever a study holds, it has the levels that it had, the program's own marks, by any marks the results, and the fences whose energies make the bare level
   pub levels : (p : Period) (plan : Plan) (m : Marks) → levelsOf p (planAsCounted plan) m ≡ levelsOf p plan m
   pub marks : (plan : Plan) → ownMarks (planAsCounted plan) ≡ ownMarks plan
   pub result : (p : Period) (plan : Plan) (m : Marks) → resultBy p (planAsCounted plan) m ≡ resultBy p plan m
