@@ -1,10 +1,10 @@
 -- Which speeds are refused, and that a slow train is heard as at 20 km/h.
 -- Assumes nothing.
 use mathlib.Core.Path.{_≡_, refl, sym, _∙_, ap, ap₂, subst}
-use mathlib.Core.Logic.{inl, inr}
+use mathlib.Core.Logic.{_↔_, inl, inr}
 use mathlib.Core.Bool.{Bool, true, false, cond, _&&_, and-false, false≢true}
-use mathlib.Core.List.{List, [], _∷_, map, map-append}
-use Prim.Native.Nat.{ℕ, suc, _-_, _<_}
+use mathlib.Core.List.{List, [], _∷_, _++_, map, map-append}
+use Prim.Native.Nat.{ℕ, suc, _-_, _≤_, _<_}
 use native.Mathlib.Omega.{arith}
 use lib.Dec.{T}
 use lib.IntN.{ℤ, pos, negsuc, _+ℤ_}
@@ -29,7 +29,7 @@ use Rattle.emission.specs.Speed.{leastCounted, countedSpeed, speedFence}
 use Rattle.emission.specs.Vehicles.{vehiclesFence}
 use Rattle.emission.specs.Trains.{trainsIn, sounds, trainsFence, trainsLevel}
 use Rattle.emission.specs.Emission.{raised, trainPartsOf, trainBreakdownOf, emissionOf, trainFence}
-use Rattle.emission.proofs.SpeedStep.{slow-counted}
+use Rattle.emission.proofs.SpeedStep.{slow-counted, typed-counted}
 use Rattle.study.specs.declared.Entry.{Entry}
 use Rattle.study.specs.Plan.{Plan, emptyPlan, segmentAt, planOf}
 use Rattle.study.specs.Add.{Limits, ours, trainAnswer}
@@ -37,7 +37,7 @@ use Rattle.study.specs.Run.{Addition, segment, train, run, kept, extend, extend
 use Rattle.study.proofs.Runs.{run-accepted}
 use Rattle.request.specs.Entry.{levelBy, entryFence}
 use Rattle.request.specs.Levels.{Marks, markAt, levelAt, levelsOf, heardAt, closeFrom, closeSegments, resultBy, groundMarks, ownMarks}
-use Rattle.request.specs.Accuracy.{fencesOf}
+use Rattle.request.specs.Accuracy.{fencesOf, Bare}
 use Rattle.request.specs.SlowTrains.{SpeedOut, isSlow, asCounted, additionAsCounted, entryAsCounted, planAsCounted, SlowTrains}
 use Rattle.request.proofs.Demand3.{ours-fit}
 
@@ -118,13 +118,23 @@ up-below : (z : ℤ) → z <ℤ pos leastCounted → up z < leastCounted
 up-below (pos n) h = omega (arith, ints)
 up-below (negsuc n) h = omega arith
 
+counts-20 : (t : Train) → isSlow t ≡ true → countedSpeed t ≡ leastCounted
+counts-20 t e = sym (slow-counted t refl (up-below (t .speed) (slow-lies t e .1)))
+
+counts-typed : (t : Train) → pos leastCounted ≤ℤ t .speed → pos (countedSpeed t) ≡ t .speed
+counts-typed t h = go (t .speed) refl h
+  where
+    go : (z : ℤ) → t .speed ≡ z → pos leastCounted ≤ℤ z → pos (countedSpeed t) ≡ z
+    go (pos n) e l = ap pos (sym (typed-counted t (sym (ap up e)) (omega (arith, ints))))
+    go (negsuc n) e l = absurd (omega (arith, ints))
+
 counted-20 : (t : Train) → countedSpeed (at20 t) ≡ leastCounted
 unfolding countedSpeed
 counted-20 t = refl
 
 slow-fence : (t : Train) → isSlow t ≡ true → speedFence (at20 t) ≡ speedFence t
 unfolding speedFence
-slow-fence t e = ap (λ (v : ℕ). fence 31200000 20000000 v 1) (counted-20 t ∙ slow-counted t refl (up-below (t .speed) (slow-lies t e .1)))
+slow-fence t e = ap (λ (v : ℕ). fence 31200000 20000000 v 1) (counted-20 t ∙ sym (counts-20 t e))
 
 parts-same : (t : Train) → trainPartsOf (asCounted t) ≡ trainPartsOf t
 unfolding trainPartsOf vehiclesFence rollingTenths trainsLevel sounds trainsFence trainsIn
@@ -178,6 +188,20 @@ unfolding extendAll
 all-same l p [] = refl
 all-same l p (a ∷ rest) = ap (λ (q : Plan). extendAll l q (map additionAsCounted rest)) (extend-same l p a) ∙ all-same l (extend l p a) rest
 
+last-added : (l : Limits) (p : Plan) (xs : List Addition) (a : Addition) → extendAll l p (xs ++ (a ∷ [])) ≡ extend l (extendAll l p xs) a
+unfolding extendAll
+last-added l p [] a = refl
+last-added l p (x ∷ xs) a = last-added l (extend l p x) xs a
+
+train-held : (l : Limits) (p : Plan) (t : Train) → trainAnswer l (length (p .segments)) (length (p .entries)) t ≡ Accepted
+    → extend l p (train t) .entries ≡ p .entries ++ (record { segment = length (p .segments) - 1; train = t } ∷ [])
+unfolding extend kept
+train-held l p t e = rw e refl
+
+last-held : (additions : List Addition) (t : Train) → planOf (run ours (additions ++ (train t ∷ []))) ≡ extend ours (planOf (run ours additions)) (train t)
+unfolding accepted
+last-held additions t = rw (run-accepted ours ours-fit additions, run-accepted ours ours-fit (additions ++ (train t ∷ []))) (last-added ours emptyPlan additions (train t))
+
 typed-same : (additions : List Addition) → planOf (run ours (map additionAsCounted additions)) ≡ planAsCounted (planOf (run ours additions))
 unfolding accepted
 typed-same additions = rw (run-accepted ours ours-fit (map additionAsCounted additions), run-accepted ours ours-fit additions) (all-same ours emptyPlan additions)
@@ -207,6 +231,10 @@ unfolding closeFrom
 close-same p plan m k [] = refl
 close-same p plan m k (s ∷ ss) = rw (heard-same p k (plan .entries), close-same p plan m (suc k) ss) refl
 
+bare-same : (p : Period) (plan : Plan) (b : ℤ) → Bare p (planAsCounted plan) b ↔ Bare p plan b
+unfolding Bare
+bare-same p plan b = rw (fences-same p plan (plan .entries)) (λ x. x, λ x. x)
+
 marks-same : (plan : Plan) → ownMarks (planAsCounted plan) ≡ ownMarks plan
 unfolding ownMarks groundMarks
 marks-same plan = rw (levels-same Day plan (groundMarks plan), levels-same Night plan (groundMarks plan)) refl
@@ -219,6 +247,9 @@ pub slow-trains : SlowTrains
 slow-trains =
     record {
       refused = λ t. (nine-only t, λ k. nine t (k .0) (k .1));
+      slow = counts-20;
+      fast = counts-typed;
+      kept = λ additions t e. ap (λ (q : Plan). q .entries) (last-held additions t) ∙ train-held ours (planOf (run ours additions)) t e;
       check = check-same;
       level = level-same;
       fence = fence-same;
@@ -226,5 +257,5 @@ slow-trains =
       levels = levels-same;
       marks = marks-same;
       result = result-same;
-      fences = λ p plan. fences-same p plan (plan .entries);
+      bare = bare-same;
     }

@@ -1,25 +1,28 @@
--- Trains that crawl (02, L4; the memorandum's footnote 4): which speeds are refused, and that a slower train is heard as at 20 km/h. Proved as `slow-trains` in
--- proofs/SlowTrains.antt.
+-- Trains that crawl (02, L4; the memorandum's footnote 4): which speeds are refused, how each other one counts, and that a study is answered as if 20 km/h were
+-- typed for each lower speed. The figures in these comments are `leastSpeed`, `mostSpeed` and `leastCounted`. Proved as `slow-trains` in proofs/SlowTrains.antt.
 -- Assumes nothing.
 use mathlib.Core.Path.{_≡_}
 use mathlib.Core.Logic.{_⊎_, _↔_}
 use mathlib.Core.Bool.{Bool, true, cond, _&&_}
-use mathlib.Core.List.{List, map}
-use lib.IntN.{pos}
-use lib.Signed.{leZ, ltZ, _<ℤ_}
+use mathlib.Core.List.{List, [], _∷_, _++_, map}
+use Prim.Native.Nat.{_-_}
+use lib.IntN.{ℤ, pos}
+use lib.ListN.{length}
+use lib.Signed.{leZ, ltZ, _≤ℤ_, _<ℤ_}
 use Rattle.figures.specs.declared.Segment.{Segment}
 use Rattle.figures.specs.declared.Train.{Train}
 use Rattle.figures.specs.declared.Period.{Period}
+use Rattle.figures.specs.declared.Check.the-variants.{Accepted}
 use Rattle.figures.specs.Refusal.{checkNumber}
 use Rattle.figures.specs.Rules.{leastSpeed, mostSpeed, rowKept, trainCheck}
-use Rattle.emission.specs.Speed.{leastCounted}
+use Rattle.emission.specs.Speed.{leastCounted, countedSpeed}
 use Rattle.study.specs.declared.Entry.{Entry}
 use Rattle.study.specs.Plan.{Plan, planOf}
-use Rattle.study.specs.Add.{ours}
+use Rattle.study.specs.Add.{ours, trainAnswer}
 use Rattle.study.specs.Run.{Addition, segment, train, run}
 use Rattle.request.specs.Entry.{levelBy, entryFence}
 use Rattle.request.specs.Levels.{Marks, levelsOf, resultBy, ownMarks}
-use Rattle.request.specs.Accuracy.{fencesOf}
+use Rattle.request.specs.Accuracy.{Bare}
 
 -- below 1 or above 300 km/h
 abbrev pub SpeedOut : Train → Type 0
@@ -45,17 +48,24 @@ abbrev pub planAsCounted : Plan → Plan
 planAsCounted plan = record { segments = plan .segments; entries = map entryAsCounted (plan .entries) }
 
 pub record SlowTrains : Type 0 where
-  -- 9 is given exactly where the speed is below 1 or above 300 and the row, which comes first, is in order
+  -- of a train's own lines 9 is given exactly where the row, which comes first, is in order and the speed is below 1 or above 300
   pub refused : (t : Train) → (checkNumber (trainCheck t) ≡ 9) ↔ ((rowKept t ≡ true) × SpeedOut t)
-  -- with 20 typed in place of each lower speed a train is judged as it was
+  -- from 1 to 19 a speed counts as 20, and from 20 on as typed
+  pub slow : (t : Train) → isSlow t ≡ true → countedSpeed t ≡ leastCounted
+  pub fast : (t : Train) → pos leastCounted ≤ℤ t .speed → pos (countedSpeed t) ≡ t .speed
+  -- a study keeps the speed as typed: an accepted train is its last entry, figure by figure
+  pub kept : (additions : List Addition) (t : Train) → let plan = planOf (run ours additions) in
+      trainAnswer ours (length (plan .segments)) (length (plan .entries)) t ≡ Accepted →
+      planOf (run ours (additions ++ (train t ∷ []))) .entries ≡ plan .entries ++ (record { segment = length (plan .segments) - 1; train = t } ∷ [])
+  -- with 20 typed in place of 1 to 19 a train is judged as it was
   pub check : (t : Train) → trainCheck (asCounted t) ≡ trainCheck t
   -- its entry has the level that it had, in each period, in every segment and by any mark, and the fence
   pub level : (p : Period) (s : Segment) (mark : Bool) (t : Train) → levelBy p s mark (asCounted t) ≡ levelBy p s mark t
   pub fence : (p : Period) (s : Segment) (t : Train) → entryFence p s (asCounted t) ≡ entryFence p s t
   -- a list of additions makes the study that it made, but for those speeds: what was refused is refused, and nothing else is
   pub typed : (additions : List Addition) → planOf (run ours (map additionAsCounted additions)) ≡ planAsCounted (planOf (run ours additions))
-  -- and whatever a study holds, it has the levels that it had, the program's own marks, by any marks the results, and the fences whose energies make the bare level
+  -- and whatever a study holds, it has the levels that it had, the program's own marks, by any marks the results, and the bare level
   pub levels : (p : Period) (plan : Plan) (m : Marks) → levelsOf p (planAsCounted plan) m ≡ levelsOf p plan m
   pub marks : (plan : Plan) → ownMarks (planAsCounted plan) ≡ ownMarks plan
   pub result : (p : Period) (plan : Plan) (m : Marks) → resultBy p (planAsCounted plan) m ≡ resultBy p plan m
-  pub fences : (p : Period) (plan : Plan) → fencesOf p (planAsCounted plan) (planAsCounted plan .entries) ≡ fencesOf p plan (plan .entries)
+  pub bare : (p : Period) (plan : Plan) (b : ℤ) → Bare p (planAsCounted plan) b ↔ Bare p plan b
