@@ -288,7 +288,7 @@ def farthest(studies, sign, report):
 
 def search(sign, mark, report):
     """The study that lies farthest to one side among those that were tried: the segment first, with one plain train, then the trains.
-    Lower speeds than 20 count as 20, and so add no error."""
+    Lower speeds than 20 count as 20, and so have no error of their own."""
     _, speed = ranked(((error(31.2 + 20 * math.log10(v)), v) for v in range(20, 301)), sign)[0]
     _, vehicles = ranked(((error(10 * math.log10(n)), n) for n in range(1, 61)), sign)[0]
     segment, _ = farthest([(segment, [[1, 100, 10, 1, 0]]) for segment in segments(sign, mark)], sign, report)

@@ -432,7 +432,10 @@ static void test_segment_refusals(void)
             CHECK(ask(text, 2).answer.refusal == 0, text);
     }
     expect_refusal(one(plain_segment, (const int32_t[5]){ 0, 0, 0, -1, -1 }), 8, 3);
+    expect_refusal(one(plain_segment, (const int32_t[5]){ 34, 0, 61, 2001, 0 }), 9, 3);
     expect_refusal(one(plain_segment, (const int32_t[5]){ 34, 301, 61, 2001, 0 }), 9, 3);
+    expect_refusal(one(plain_segment, (const int32_t[5]){ 34, 1, 61, 2001, 0 }), 10, 3);
+    expect_refusal(one(plain_segment, (const int32_t[5]){ 34, 19, 60, 2001, 0 }), 11, 3);
     expect_refusal(one(plain_segment, (const int32_t[5]){ 34, 300, 61, 2001, 0 }), 10, 3);
 }
 

@@ -305,6 +305,9 @@ static void test_limits(void)
            "the day reaches its limit, the night rises: not entitled");
 }
 
+/* A train that crawls (02's L4) and the same at 20 km/h: 49.5 and 45.5 dB. */
+#define SLOW(speed) "1 1\n2600 180 420 3 160 170 0 0 0 0 0 0 1 0 0\n4 " speed " 9 60 8\n"
+
 /* Beside silent lines a level stays as it is and has no mark, in whatever place it stands. */
 static void test_alone(void)
 {
@@ -312,6 +315,7 @@ static void test_alone(void)
     const struct { lines set; int32_t day, night; bool reaches; } cases[] = {
         { typed(FAINT), -394, -346, false }, { both(600), 600, 600, false },       { both(680), 680, 680, true },
         { typed(sample), 629, 563, false },  { full(), FULL_DAY, FULL_NIGHT, true },
+        { typed(SLOW("7")), 495, 455, false }, { typed(SLOW("20")), 495, 455, false },
     };
     for (size_t i = 0; i < COUNT(cases); i++)
         for (size_t k = 0; k < COUNT(silent); k++) {

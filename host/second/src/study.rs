@@ -1,5 +1,5 @@
 //! Segments, train entries and the refusals of their figures (01, "The study", "Turned back for a figure";
-//! 02, L1).
+//! 02, L1 and L4).
 
 use crate::steps;
 
