@@ -38,7 +38,7 @@ use Rattle.study.proofs.Runs.{run-accepted}
 use Rattle.request.specs.Entry.{levelBy, entryFence}
 use Rattle.request.specs.Levels.{Marks, markAt, levelAt, levelsOf, heardAt, closeFrom, closeSegments, resultBy, groundMarks, ownMarks}
 use Rattle.request.specs.Accuracy.{fencesOf, Bare}
-use Rattle.request.specs.SlowTrains.{SpeedOut, isSlow, asCounted, additionAsCounted, entryAsCounted, planAsCounted, SlowTrains}
+use Rattle.request.specs.SlowTrains.{SpeedOut, isSlow, atLeastCounted, asCounted, additionAsCounted, entryAsCounted, planAsCounted, SlowTrains}
 use Rattle.request.proofs.Demand3.{ours-fit}
 
 -- ---- which speeds are refused
@@ -75,15 +75,12 @@ nine-only t e = let b = go (rowKept t) (speedKept t) (vehiclesKept t) (trainsKep
 
 -- ---- a slow train
 
-abbrev at20 : Train → Train
-at20 t = record { row = t .row; speed = pos leastCounted; vehicles = t .vehicles; day = t .day; night = t .night }
-
 -- what holds of a slow train at 20 km/h holds of every train as it counts
-by-slow : {A : Type 0} (f : Train → A) (t : Train) → (isSlow t ≡ true → f (at20 t) ≡ f t) → f (asCounted t) ≡ f t
+by-slow : {A : Type 0} (f : Train → A) (t : Train) → (isSlow t ≡ true → f (atLeastCounted t) ≡ f t) → f (asCounted t) ≡ f t
 unfolding asCounted
 by-slow {A} f t h = go (isSlow t) refl
   where
-    go : (b : Bool) → isSlow t ≡ b → f (cond b (at20 t) t) ≡ f t
+    go : (b : Bool) → isSlow t ≡ b → f (cond b (atLeastCounted t) t) ≡ f t
     go true e = h e
     go false e = refl
 
@@ -103,11 +100,11 @@ slow-kept t e =
     let s = slow-lies t e in
     ap₂ _&&_ (le-true (pos leastSpeed) (t .speed) (s .0)) (le-true (t .speed) (pos mostSpeed) (omega (arith, ints, s .1)))
 
-kept-20 : (t : Train) → speedKept (at20 t) ≡ true
+kept-20 : (t : Train) → speedKept (atLeastCounted t) ≡ true
 unfolding speedKept
 kept-20 t = refl
 
-slow-check : (t : Train) → isSlow t ≡ true → trainCheck (at20 t) ≡ trainCheck t
+slow-check : (t : Train) → isSlow t ≡ true → trainCheck (atLeastCounted t) ≡ trainCheck t
 unfolding trainCheck rowKept vehiclesKept trainsKept
 slow-check t e = rw (slow-kept t e, kept-20 t) refl
 
@@ -128,11 +125,11 @@ counts-typed t h = go (t .speed) refl h
     go (pos n) e l = ap pos (sym (typed-counted t (sym (ap up e)) (omega (arith, ints))))
     go (negsuc n) e l = absurd (omega (arith, ints))
 
-counted-20 : (t : Train) → countedSpeed (at20 t) ≡ leastCounted
+counted-20 : (t : Train) → countedSpeed (atLeastCounted t) ≡ leastCounted
 unfolding countedSpeed
 counted-20 t = refl
 
-slow-fence : (t : Train) → isSlow t ≡ true → speedFence (at20 t) ≡ speedFence t
+slow-fence : (t : Train) → isSlow t ≡ true → speedFence (atLeastCounted t) ≡ speedFence t
 unfolding speedFence
 slow-fence t e = ap (λ (v : ℕ). fence 31200000 20000000 v 1) (counted-20 t ∙ sym (counts-20 t e))
 

@@ -32,9 +32,13 @@ SpeedOut t = (t .speed <ℤ pos leastSpeed) ⊎ (pos mostSpeed <ℤ t .speed)
 unfoldable pub isSlow : Train → Bool
 isSlow t = leZ (pos leastSpeed) (t .speed) && ltZ (t .speed) (pos leastCounted)
 
+-- the same train at 20 km/h
+abbrev pub atLeastCounted : Train → Train
+atLeastCounted t = record { row = t .row; speed = pos leastCounted; vehicles = t .vehicles; day = t .day; night = t .night }
+
 -- a slow train at 20 km/h, every other one as it is
 unfoldable pub asCounted : Train → Train
-asCounted t = cond (isSlow t) (record { row = t .row; speed = pos leastCounted; vehicles = t .vehicles; day = t .day; night = t .night }) t
+asCounted t = cond (isSlow t) (atLeastCounted t) t
 
 -- the same of what is added, of an entry, and of all that a study holds
 unfoldable pub additionAsCounted : Addition → Addition
