@@ -1,10 +1,11 @@
-/* Requests that are put to several studies of one window: whether a house is entitled to insulation.
+/* Requests that are put to several studies of one window: whether a house is entitled to insulation, and the
+ * levels of two drawings as one study.
  *
  * This header includes railnoise.h, which describes a study's text, its figures, periods and refusals, with
- * railnoise_refusal_words for these. The archive librailnoise_requests_c.a has the function below and needs
+ * railnoise_refusal_words for these. The archive librailnoise_requests_c.a has the functions below and needs
  * nothing of librailnoise_c.a, which has railnoise_levels; a program that calls both links both, in any order.
- * What railnoise.h says of threads, memory and the C library holds here too; a call takes less than 8 kB of
- * stack.
+ * What railnoise.h says of threads, memory and the C library holds here too; a call of railnoise_entitlement
+ * takes less than 8 kB of stack, one of railnoise_merged_levels less than @STACK@ kB.
  */
 #ifndef RAILNOISE_REQUESTS_H
 #define RAILNOISE_REQUESTS_H
@@ -84,6 +85,43 @@ railnoise_entitlement_answer railnoise_entitlement(
     const uint8_t *altered_after, size_t altered_after_length, bool altered_after_empty,
     const uint8_t *other_before, size_t other_before_length, bool other_before_empty,
     const uint8_t *other_after, size_t other_after_length, bool other_after_empty);
+
+/* The answer to a request for the levels of two drawings. */
+typedef struct {
+    uint32_t refusal; /* 0 when answered, else 1 to 13, 21, 22 or 24 */
+    uint32_t text;    /* which text was refused, with 1 to 13: 1 the first, 2 the second; else 0 */
+    uint32_t line;    /* its refused line, counted from 1; 0 for a text that is too long, and where text is 0 */
+    railnoise_period day;
+    railnoise_period night; /* on a refusal both periods are silent, level 0, close 0, not met */
+} railnoise_merged_answer;
+
+/* The levels of two drawings of one window as one study: of a terminal, say, the yard and the main line, which
+ * two teams draw. The study has all segments and train entries of the first text, then those of the second, in
+ * their order, each entry with its own segment. Its levels, close counts and verdicts are those of one text
+ * with all the lines, so at most 0.46 dB from the formulas without rounding, as every study's. They are not
+ * the levels that the two drawings report by themselves, added: those are rounded once more.
+ *
+ * first, second: two study texts with their lengths, as railnoise_levels takes one. Each needs at least one
+ *     train entry; of a drawing without trains nothing is heard, so ask railnoise_levels for the other. Both
+ *     are only read, and one text may be given twice. Nobody can check here that both are of the same window.
+ * cells, cell_count: working cells. With t train entries in both texts together, an answer leaves the t day
+ *     levels, those of the first text's entries before the second's, then the t night levels likewise, in the
+ *     first 2t cells, tenths of a decibel, a silent one as -9999. Further cells are untouched. What the cells
+ *     held before makes no difference; RAILNOISE_MOST_CELLS are always enough.
+ *
+ * Refused, in this order: the first text, by its own number at its line; the second text, likewise; more than
+ * 24 segments together, 21; more than 96 train entries together, 22; fewer than 2t cells, 24. On a refusal
+ * every cell holds what it held before.
+ *
+ * A null pointer goes only with length 0, and the cells must not overlap a text.
+ *
+ * The yard has 1 segment with 2 entries, the main line 2 segments with 1 and 2:
+ *     first   @FIRST@
+ *     second  @SECOND@
+ */
+railnoise_merged_answer railnoise_merged_levels(const uint8_t *first, size_t first_length,
+                                                const uint8_t *second, size_t second_length,
+                                                int32_t *cells, size_t cell_count);
 
 #ifdef __cplusplus
 }

@@ -123,7 +123,7 @@ module _ (l : Limits) (count total : ℕ) (t : Train) where
 -- ---- an answer, and its number
 
 -- an addition's check is its answer's
-answered : (check : Check) (old new : Study) → answer check old new .check ≡ check
+pub answered : (check : Check) (old new : Study) → answer check old new .check ≡ check
 unfolding answer
 answered Accepted old new = refl
 answered (Refused r) old new = refl

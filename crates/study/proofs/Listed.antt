@@ -82,7 +82,7 @@ module _ (l : Limits) (p : Plan) (held : PlanHeld l p) where
   listed-kept (train t) e = rw e (listed-train (record { segment = length (p .segments) - 1; train = t }) (train-taken l _ _ t e .some) refl)
 
 -- the additions accepted follow those that the plan lists
-listed-all : (l : Limits) (additions : List Addition) (p : Plan) → PlanHeld l p → listed (extendAll l p additions) ≡ listed p ++ acceptedOnly l p additions
+pub listed-all : (l : Limits) (additions : List Addition) (p : Plan) → PlanHeld l p → listed (extendAll l p additions) ≡ listed p ++ acceptedOnly l p additions
 unfolding extendAll acceptedOnly
 listed-all l [] p held = sym (append-nil (listed p))
 listed-all l (a ∷ rest) p held =
@@ -92,7 +92,7 @@ listed-all l (a ∷ rest) p held =
     (λ e. rw (listed-kept l p held a e) (append-assoc (listed p) (a ∷ []) (acceptedOnly l q rest)))
     (λ r e. ap (λ (x : Plan). listed x ++ acceptedOnly l q rest) (refused-stays l p a r e))
 
-listed-accepted : (l : Limits) (additions : List Addition) → listed (accepted l additions) ≡ acceptedOnly l emptyPlan additions
+pub listed-accepted : (l : Limits) (additions : List Addition) → listed (accepted l additions) ≡ acceptedOnly l emptyPlan additions
 unfolding accepted listed listedFrom
 listed-accepted l additions = listed-all l additions emptyPlan (record { count = omega arith; total = omega arith; segments = none; entries = none })
 

@@ -58,7 +58,7 @@ unfolding step addSegment addTrain
 step-sized l st sized (segment s) = by-answer (Sized l) (segmentAnswer l (st .count) s) st (withSegment st s) sized (with-segment-sized l st sized s)
 step-sized l st sized (train t) = by-answer (Sized l) (trainAnswer l (st .count) (st .total) t) st (withTrain st t) sized (with-train-sized l st sized t)
 
-from-sized : (l : Limits) (additions : List Addition) (st : Study) → Sized l st → Sized l (runFrom l st additions)
+pub from-sized : (l : Limits) (additions : List Addition) (st : Study) → Sized l st → Sized l (runFrom l st additions)
 unfolding runFrom
 from-sized l [] st sized = sized
 from-sized l (a ∷ rest) st sized = from-sized l rest (step l st a) (step-sized l st sized a)
@@ -81,7 +81,7 @@ module _ (l : Limits) (fit : LimitsFit l) (st : Study) (sized : Sized l st) wher
   pub rows-length : length (take (st .total) (st .entries)) ≡ st .total
   rows-length = length-take-le (st .total) (st .entries) (omega (arith, sized .rows, sized .total, fit .entries))
 
-plan-by : (check : Check) (old new : Study) (q : Plan) → (check ≡ Accepted → planOf new ≡ q) → planOf (answer check old new .study) ≡ kept check (planOf old) q
+pub plan-by : (check : Check) (old new : Study) (q : Plan) → (check ≡ Accepted → planOf new ≡ q) → planOf (answer check old new .study) ≡ kept check (planOf old) q
 unfolding answer kept
 plan-by Accepted old new q h = h refl
 plan-by (Refused r) old new q h = refl
@@ -102,7 +102,7 @@ step-plan l fit st sized (train t) =
     let room = train-taken l (st .count) (st .total) t z .room in
     rw (add-one, take-suc-set (st .entries) (st .total) e (omega (arith, sized .rows, fit .entries)))))
 
-from-plan : (l : Limits) → LimitsFit l → (additions : List Addition) (st : Study) → Sized l st → planOf (runFrom l st additions) ≡ extendAll l (planOf st) additions
+pub from-plan : (l : Limits) → LimitsFit l → (additions : List Addition) (st : Study) → Sized l st → planOf (runFrom l st additions) ≡ extendAll l (planOf st) additions
 unfolding runFrom extendAll
 from-plan l fit [] st sized = refl
 from-plan l fit (a ∷ rest) st sized =

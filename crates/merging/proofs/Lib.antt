@@ -1,0 +1,5 @@
+pub mod Checks
+pub mod Joining
+pub mod Merges
+pub mod OwnLevels
+pub mod Laws
