@@ -3,3 +3,4 @@ pub mod Joining
 pub mod Merges
 pub mod OwnLevels
 pub mod Laws
+pub mod Texts

@@ -1,3 +1,4 @@
 pub mod Merge
 pub mod Joined
 pub mod Laws
+pub mod Texts
