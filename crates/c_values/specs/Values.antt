@@ -1,11 +1,13 @@
--- Values as C's structs hold them: a level, and a line's number.
+-- Values as C's structs hold them: a level, a line's number, and a period's result.
 -- Assumes nothing.
 use mathlib.Core.Bool.{Bool, true, false}
 use Prim.Native.Nat.{ℕ, min}
 use lib.IntN.{ℤ, pos}
 use Rattle.decibel.specs.declared.Level.{Level}
 use Rattle.decibel.specs.declared.Level.the-variants.{Silent, Figure}
+use Rattle.request.specs.declared.PeriodResult.{PeriodResult}
 use Rattle.c_values.specs.declared.LevelValue.{LevelValue}
+use Rattle.c_values.specs.declared.RailnoisePeriod.{RailnoisePeriod}
 
 abbrev pub isSilent : Level → Bool
 isSilent Silent = true
@@ -22,3 +24,6 @@ levelValue l = record { silent = isSilent l; tenths = tenthsOf l }
 -- a line as 32 bits hold it: one above 4,294,967,295 counts as that
 abbrev pub lineValue : ℕ → ℕ
 lineValue line = min line 4294967295
+
+unfoldable pub exportedPeriod : PeriodResult → RailnoisePeriod
+exportedPeriod r = record { silent = isSilent (r .level); level = tenthsOf (r .level); close = r .close; met = r .met }

@@ -9,7 +9,6 @@ use Rattle.figures.specs.declared.Period.{Period}
 use Rattle.figures.specs.declared.Period.the-variants.{Day, Night}
 use Rattle.figures.specs.declared.Check.the-variants.{Accepted}
 use Rattle.figures.specs.Refusal.{checkNumber}
-use Rattle.request.specs.declared.PeriodResult.{PeriodResult}
 use Rattle.request.specs.declared.Answer.{Answer}
 use Rattle.study.specs.Add.{ours}
 use Rattle.study.specs.Plan.{Plan, planOf}
@@ -25,25 +24,10 @@ use Rattle.text.proofs.Counted.{accepted-text-has-entry}
 use Rattle.text.proofs.Accuracy.{text-accurate}
 use Rattle.railnoise_c.specs.declared.RailnoiseAnswer.{RailnoiseAnswer}
 use Rattle.text.specs.Answer.{atLine, answerWith, cellsWith, textAnswer}
-use Rattle.c_values.specs.Values.{isSilent}
-use Rattle.railnoise_c.specs.Exported.{exportedPeriod, exported, Called}
-use Rattle.railnoise_c.specs.Accuracy.{listedIn, periodIn, PeriodAccurate, AnswerAccurate, CallAccurate}
-
--- what C gets of a period's result is as accurate as the result
-exported-accurate : (p : Period) (plan : Plan) (x : PeriodResult) → AccurateToBare demanded p plan x → PeriodAccurate p plan (exportedPeriod x)
-unfolding exportedPeriod
-exported-accurate p plan x a =
-    let level = a .accurate .level in
-    record {
-      bare = a .bare;
-      is = a .is;
-      only = a .only;
-      figure = ap isSilent level;
-      above = rw level (a .accurate .above);
-      below = rw level (a .accurate .below);
-      always = a .accurate .always;
-      never = a .accurate .never;
-    }
+use Rattle.c_values.specs.Values.{exportedPeriod}
+use Rattle.c_values.proofs.Accuracy.{exported-accurate}
+use Rattle.railnoise_c.specs.Exported.{exported, Called}
+use Rattle.railnoise_c.specs.Accuracy.{listedIn, periodIn, AnswerAccurate, CallAccurate}
 
 period-exported : (p : Period) (line : ℕ) (a : Answer) → periodIn p (exported (atLine line a)) ≡ exportedPeriod (resultIn p a)
 unfolding periodIn exported resultIn

@@ -1,25 +1,23 @@
 -- Demand 3 for what C gets: how far the level of each period lies from the bare level of what the text alone has accepted.
 -- Assumes nothing.
 use mathlib.Core.Path.{_≡_}
-use mathlib.Core.Bool.{true, false}
+use mathlib.Core.Bool.{true}
 use mathlib.Core.List.{List}
-use Prim.Native.Nat.{ℕ, _*_, _-_, _≤_}
-use lib.IntN.{ℤ, pos, _+ℤ_}
+use Prim.Native.Nat.{ℕ, _≤_}
+use lib.IntN.{ℤ}
 use lib.ListN.{length}
-use lib.Signed.{_≤ℤ_, _<ℤ_}
-use Rattle.decibel.specs.Round.{micro}
 use Rattle.figures.specs.declared.Period.{Period}
 use Rattle.figures.specs.declared.Period.the-variants.{Day, Night}
 use Rattle.figures.specs.declared.Check.the-variants.{Accepted}
 use Rattle.study.specs.Plan.{Plan}
 use Rattle.study.specs.Add.{ours}
 use Rattle.study.specs.Run.{accepted}
-use Rattle.request.specs.Levels.{limitOf}
 use Rattle.request.specs.Request.{cellsNeeded}
-use Rattle.request.specs.Accuracy.{hasTrains, Bare, demanded}
+use Rattle.request.specs.Accuracy.{hasTrains}
 use Rattle.text.specs.Text.{readText}
 use Rattle.text.specs.Additions.{additionsOf}
-use Rattle.railnoise_c.specs.declared.RailnoisePeriod.{RailnoisePeriod}
+use Rattle.c_values.specs.declared.RailnoisePeriod.{RailnoisePeriod}
+use Rattle.c_values.specs.Accuracy.{PeriodAccurate}
 use Rattle.railnoise_c.specs.declared.RailnoiseAnswer.{RailnoiseAnswer}
 use Rattle.railnoise_c.specs.Exported.{Called}
 
@@ -31,18 +29,6 @@ listedIn text = accepted ours (additionsOf ours text)
 unfoldable pub periodIn : Period → RailnoiseAnswer → RailnoisePeriod
 periodIn Day r = r .day
 periodIn Night r = r .night
-
--- there is one bare level; the level is a figure, which counts 100,000 microdecibels to the tenth, at most 0.46 dB from it;
--- and it settles the verdict outside the band
-pub record PeriodAccurate (p : Period) (plan : Plan) (r : RailnoisePeriod) : Type 0 where
-  pub bare : ℤ
-  pub is : Bare p plan bare
-  pub only : (b : ℤ) → Bare p plan b → b ≡ bare
-  pub figure : r .silent ≡ false
-  pub above : micro (r .level) ≤ℤ (bare +ℤ pos (demanded .above))
-  pub below : bare ≤ℤ (micro (r .level) +ℤ pos (demanded .below))
-  pub always : pos (1000000 * limitOf p - demanded .always) ≤ℤ bare → r .met ≡ true
-  pub never : bare <ℤ pos (1000000 * limitOf p - demanded .never) → r .met ≡ false
 
 -- no refusal and no line at fault, and each period in which an entry has trains is accurate
 pub record AnswerAccurate (plan : Plan) (r : RailnoiseAnswer) : Type 0 where

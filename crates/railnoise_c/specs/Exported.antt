@@ -6,20 +6,15 @@ use Prim.Native.Nat.{ℕ}
 use lib.IntN.{ℤ}
 use lib.ListN.{length}
 use Rattle.figures.specs.Refusal.{checkNumber}
-use Rattle.c_values.specs.Values.{isSilent, tenthsOf, lineValue}
-use Rattle.request.specs.declared.PeriodResult.{PeriodResult}
+use Rattle.c_values.specs.Values.{lineValue, exportedPeriod}
 use Rattle.study.specs.Add.{ours}
 use Rattle.request.specs.Levels.{ownMarks, MarksAllowed}
 use Rattle.text.specs.declared.TextAnswer.{TextAnswer}
 use Rattle.text.specs.Text.{readText}
 use Rattle.text.specs.Answer.{cellsWith, planIn, textAnswer}
-use Rattle.railnoise_c.specs.declared.RailnoisePeriod.{RailnoisePeriod}
 use Rattle.railnoise_c.specs.declared.RailnoiseAnswer.{RailnoiseAnswer}
 
 -- ---- the values of C's structs
-
-unfoldable pub exportedPeriod : PeriodResult → RailnoisePeriod
-exportedPeriod r = record { silent = isSilent (r .level); level = tenthsOf (r .level); close = r .close; met = r .met }
 
 -- 01's number of the refusal, 0 where answered, with the line of the text that it concerns, 0 where none, and both periods
 unfoldable pub exported : TextAnswer → RailnoiseAnswer

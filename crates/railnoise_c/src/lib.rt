@@ -1,19 +1,10 @@
 // The one function for C: a study text and working cells in, both periods' results out.
 ghost use mathlib.Core.Path.{_≡_};
-ghost use Rattle.railnoise_c.specs.Exported.{exportedPeriod, exported, Called};
-use c_values::level_value;
+ghost use Rattle.railnoise_c.specs.Exported.{exported, Called};
+use c_values::RailnoisePeriod;
 use c_values::line_value;
-use request::PeriodResult;
+use c_values::period_value;
 use text::TextAnswer;
-
-// `railnoise_period`: the level in tenths, 0 when silent.
-#[repr(C)]
-pub struct RailnoisePeriod {
-    pub silent: bool,
-    pub level: i32,
-    pub close: u32,
-    pub met: bool,
-}
 
 // `railnoise_answer`: refusal 0 when answered; line 0 where none is at fault.
 #[repr(C)]
@@ -22,19 +13,6 @@ pub struct RailnoiseAnswer {
     pub line: u32,
     pub day: RailnoisePeriod,
     pub night: RailnoisePeriod,
-}
-
-fn period_of(result: PeriodResult) -> RailnoisePeriod
-    ensures { λ r. ⌜ r ≡ exportedPeriod result ⌝ }
-{
-    let level = result.level;
-    let value = level_value(level);
-    RailnoisePeriod {
-        silent: value.silent,
-        level: value.tenths,
-        close: result.close,
-        met: result.met,
-    }
 }
 
 fn answer_of(answer: TextAnswer) -> RailnoiseAnswer
@@ -46,8 +24,8 @@ fn answer_of(answer: TextAnswer) -> RailnoiseAnswer
     RailnoiseAnswer {
         refusal: refusal,
         line: at,
-        day: period_of(answer.day),
-        night: period_of(answer.night),
+        day: period_value(answer.day),
+        night: period_value(answer.night),
     }
 }
 

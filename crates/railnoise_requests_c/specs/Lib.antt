@@ -1,2 +1,3 @@
 pub mod Entitlement
+pub mod Merged
 pub mod Private

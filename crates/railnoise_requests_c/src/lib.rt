@@ -2,9 +2,12 @@
 ghost use mathlib.Core.Path.{_≡_};
 ghost use Rattle.entitlement.specs.Entitlement.{refusedEntitlement, EntitlementAnsweredBy};
 ghost use Rattle.railnoise_requests_c.specs.Entitlement.{exportedCombined, exportedEntitlementPeriod, exportedEntitlement, source, EntitlementCalled};
+ghost use Rattle.railnoise_requests_c.specs.Merged.{exportedMerged, MergedCalled};
 ghost use Rattle.railnoise_requests_c.specs.Private.{TextReports, changeOf, byDay, byNight};
+use c_values::RailnoisePeriod;
 use c_values::level_value;
 use c_values::line_value;
+use c_values::period_value;
 use decibel::Level;
 use energy::Total;
 use entitlement::Change;
@@ -16,6 +19,8 @@ use entitlement::refused_entitlement;
 use figures::Check;
 use figures::Refusal;
 use figures::check_number;
+use merging::MergedAnswer;
+use merging::merged_levels;
 use request::MOST_CELLS;
 use text::text_levels;
 
@@ -47,6 +52,16 @@ pub struct RailnoiseEntitlementAnswer {
     pub day: RailnoiseEntitlementPeriod,
     pub night: RailnoiseEntitlementPeriod,
     pub entitled: bool,
+}
+
+// `railnoise_merged_answer`: refusal, text and line 0 when answered; text and line 0 where no text is at fault.
+#[repr(C)]
+pub struct RailnoiseMergedAnswer {
+    pub refusal: u32,
+    pub text: u32,
+    pub line: u32,
+    pub day: RailnoisePeriod,
+    pub night: RailnoisePeriod,
 }
 
 // What a text gives: its refusal and line, or the level that its study reports in each period.
@@ -214,4 +229,31 @@ pub extern "C" fn railnoise_entitlement(
         return refused_text(refusal, 4, fourth.line);
     }
     answer_of(entitled(first, second, third, fourth), 0, 0)
+}
+
+fn merged_answer_of(answer: MergedAnswer) -> RailnoiseMergedAnswer
+    ensures { λ r. ⌜ r ≡ exportedMerged answer ⌝ }
+{
+    let check = answer.check;
+    let refusal = check_number(check);
+    let at = line_value(answer.line);
+    RailnoiseMergedAnswer {
+        refusal: refusal,
+        text: answer.text,
+        line: at,
+        day: period_value(answer.day),
+        night: period_value(answer.night),
+    }
+}
+
+// The levels of two texts as one study.
+#[no_mangle]
+pub extern "C" fn railnoise_merged_levels(
+    first: &[u8],
+    second: &[u8],
+    cells: &mut [i32],
+) -> RailnoiseMergedAnswer
+    ensures { λ r. ⌜ MergedCalled (now (first .entry)) (now (second .entry)) (now (cells .entry)) (now (cells .exit)) r ⌝ }
+{
+    merged_answer_of(merged_levels(first, second, cells))
 }

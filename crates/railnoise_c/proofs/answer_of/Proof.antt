@@ -11,15 +11,15 @@ check-number-requires c κs = search needs
 line-value-requires : tie.Need-line-value-requires
 line-value-requires c κs = search needs
 
-period-of-requires : tie.Need-period-of-requires
-period-of-requires c κs = search needs
+period-value-requires : tie.Need-period-value-requires
+period-value-requires c κs = search needs
 
-period-of-requires-2 : tie.Need-period-of-requires-2
-period-of-requires-2 c κs = search needs
+period-value-requires-2 : tie.Need-period-value-requires-2
+period-value-requires-2 c κs = search needs
 
 returns : tie.Need-returns
 unfolding exported
-returns c = rw (c .before .before .before .check-number .ensures, c .before .before .line-value .ensures, c .before .period-of .ensures, c .period-of2 .ensures)
+returns c = rw (c .before .before .before .check-number .ensures, c .before .before .line-value .ensures, c .before .period-value .ensures, c .period-value2 .ensures)
 
 pub answer-of-spec : {M : Type 1} → statement M
 answer-of-spec =
@@ -27,6 +27,6 @@ answer-of-spec =
     (tie.spec
     check-number-requires
     line-value-requires
-    period-of-requires
-    period-of-requires-2
+    period-value-requires
+    period-value-requires-2
     returns)
