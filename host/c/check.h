@@ -20,6 +20,8 @@ static inline bool check_at(bool passed, const char *words, const char *about, i
 /* `about` says which case it was. */
 #define CHECK(condition, about) check_at((condition), #condition, (about), __LINE__)
 
+#define COUNT(array) (sizeof(array) / sizeof *(array))
+
 static inline int check_report(const char *title)
 {
     printf("%s: %u checks, %u failed\n", title, check_count, check_failures);

@@ -1,6 +1,7 @@
 /* Host tests of railnoise_levels. Expected figures are worked out from the requirements: the steps'
  * printed readings, the memorandum's Examples 1, 2 and 8, and sums of them by hand. */
 #define _DEFAULT_SOURCE
+#include "answers.h"
 #include "check.h"
 #include "guarded.h"
 #include "railnoise.h"
@@ -9,39 +10,15 @@
 
 #include <string.h>
 
-#define SENTINELS 8
-#define SENTINEL 0x5a5a5a5a
-#define UNTOUCHED 77777
-#define SILENT RAILNOISE_SILENT_CELL
-
 /* A request and everything that came back. */
 typedef struct {
     railnoise_answer answer;
     int32_t cells[RAILNOISE_MOST_CELLS + 16];
 } outcome;
 
-static bool same_period(railnoise_period a, railnoise_period b)
-{
-    return a.silent == b.silent && a.level == b.level && a.close == b.close && a.met == b.met;
-}
-
 static bool same_answer(railnoise_answer a, railnoise_answer b)
 {
     return a.refusal == b.refusal && a.line == b.line && same_period(a.day, b.day) && same_period(a.night, b.night);
-}
-
-static void fill(int32_t *cells, size_t count, int32_t value)
-{
-    for (size_t i = 0; i < count; i++)
-        cells[i] = value;
-}
-
-static bool all(const int32_t *cells, size_t count, int32_t value)
-{
-    for (size_t i = 0; i < count; i++)
-        if (cells[i] != value)
-            return false;
-    return true;
 }
 
 /* In memory of exactly the right size, cells between sentinels: for the sanitizers and valgrind. */
@@ -49,18 +26,11 @@ static outcome ask_on_heap(const char *text, size_t length, size_t cell_count)
 {
     outcome o;
     uint8_t *copy = heap_copy(text, length);
-    int32_t *room = malloc((cell_count + 2 * SENTINELS) * sizeof *room);
-    if (room == NULL)
-        exit(2);
-    fill(room, cell_count + 2 * SENTINELS, SENTINEL);
-    fill(room + SENTINELS, cell_count, UNTOUCHED);
-    o.answer = railnoise_levels(copy, length, room + SENTINELS, cell_count);
-    CHECK(all(room, SENTINELS, SENTINEL), "sentinels before the cells");
-    CHECK(all(room + SENTINELS + cell_count, SENTINELS, SENTINEL), "sentinels after the cells");
+    int32_t *cells = lend_cells(cell_count);
+    o.answer = railnoise_levels(copy, length, cells, cell_count);
     CHECK(length == 0 || memcmp(copy, text, length) == 0, "text unchanged");
-    memcpy(o.cells, room + SENTINELS, cell_count * sizeof *room);
+    take_cells_back(cells, cell_count, o.cells);
     free(copy);
-    free(room);
     return o;
 }
 
@@ -75,7 +45,7 @@ static outcome ask_at_page_end(const char *text, size_t length, size_t cell_coun
     outcome o;
     uint8_t *copy = guarded_copy(text_room, text, length);
     int32_t *cells = guarded_end(cell_room, cell_count * sizeof *cells);
-    fill(cells, cell_count, -1);
+    fill(cells, cell_count, UNTOUCHED_TOO);
     o.answer = railnoise_levels(copy, length, cells, cell_count);
     memcpy(o.cells, cells, cell_count * sizeof *cells);
     return o;
@@ -87,10 +57,7 @@ static outcome ask_bytes(const char *text, size_t length, size_t cell_count)
     outcome o = ask_on_heap(text, length, cell_count);
     outcome again = ask_at_page_end(text, length, cell_count);
     CHECK(same_answer(o.answer, again.answer), "asked twice");
-    size_t same = 0;
-    while (same < cell_count && again.cells[same] == (o.cells[same] == UNTOUCHED ? -1 : o.cells[same]))
-        same++;
-    CHECK(same == cell_count, "cells asked twice");
+    CHECK(same_cells(o.cells, again.cells, cell_count), "cells asked twice");
     return o;
 }
 
@@ -98,8 +65,6 @@ static outcome ask(const char *text, size_t cell_count)
 {
     return ask_bytes(text, strlen(text), cell_count);
 }
-
-static const railnoise_period silent_period = { true, 0, 0, false };
 
 /* Number, line, silent periods and untouched cells. */
 static void expect_refusal_bytes(const char *text, size_t length, size_t cell_count, uint32_t number, uint32_t line)
@@ -116,12 +81,6 @@ static void expect_refusal_bytes(const char *text, size_t length, size_t cell_co
 static void expect_refusal(const char *text, uint32_t number, uint32_t line)
 {
     expect_refusal_bytes(text, strlen(text), RAILNOISE_MOST_CELLS, number, line);
-}
-
-static void expect_period(railnoise_period p, int32_t level, uint32_t close, bool met, const char *about)
-{
-    if (!CHECK(same_period(p, (railnoise_period){ false, level, close, met }), about))
-        printf("  got silent %d level %d close %u met %d\n", p.silent, p.level, p.close, p.met);
 }
 
 /* A segment with no step but those the changed fields bring, and a train of level 37.9 by day. */

@@ -2,16 +2,14 @@
  * requirements: document 02's request L2, the memorandum's paragraphs 7 and 8 and its Example 1. Two levels that
  * lie x dB apart add 10 log(1 + 10^(-x/10)) to the louder one. */
 #define _DEFAULT_SOURCE
+#include "answers.h"
 #include "check.h"
 #include "guarded.h"
 #include "railnoise_requests.h"
 #include "texts.h"
 #include "threads.h"
 
-#include <math.h>
 #include <string.h>
-
-#define COUNT(array) (sizeof(array) / sizeof *(array))
 
 typedef railnoise_entitlement_answer answer;
 typedef railnoise_entitlement_period period;
@@ -102,7 +100,6 @@ static answer ask(lines altered_before, lines altered_after, lines other_before,
 }
 
 /* A level without a mark; SILENT for none. */
-#define SILENT INT32_MIN
 static railnoise_combined at(int32_t level)
 {
     return level == SILENT ? (railnoise_combined){ true, 0, false } : (railnoise_combined){ false, level, false };
@@ -136,26 +133,13 @@ static void expect_refusal(answer got, uint32_t number, int set, uint32_t line, 
     expect_same(got, (answer){ number, (uint32_t)set + 1, line, nothing, nothing, false }, about);
 }
 
-/* Ten times the number of trains are 10.0 dB, the rest is the Table 1 reading. */
-static char *put_level(char *place, int32_t plain, int32_t level, bool night)
-{
-    int trains = level == SILENT ? 0 : 1, reading = level == SILENT ? 0 : level - plain;
-    for (; reading >= 100; reading -= 100)
-        trains *= 10;
-    return place + sprintf(place, "2500 0 600 0 180 180 0 0 0 0 %d 0 0 0 0\n1 100 1 %d %d\n", reading,
-                           night ? 0 : trains, night ? trains : 0);
-}
-
-/* A study with these levels, from 37.9 by day and from 42.7 by night. Its text lasts until 64 more are made. */
+/* A study with these levels, as put_levels takes them. Its text lasts until 64 more are made. */
 static lines study(int32_t day, int32_t night)
 {
     static char texts[64][120];
     static unsigned made;
     char *text = texts[made++ % COUNT(texts)];
-    char *end = text + sprintf(text, "2 1 1\n");
-    end = put_level(end, PLAIN_DAY, day, false);
-    end = put_level(end, PLAIN_NIGHT, night, true);
-    return (lines){ text, (size_t)(end - text), false };
+    return (lines){ text, put_levels(text, day, night), false };
 }
 
 /* The same level by day and by night. */
@@ -184,17 +168,8 @@ static void expect_levels(lines set, int32_t day, int32_t night, const char *abo
     CHECK((a.day.silent || a.day.level == day) && (a.night.silent || a.night.level == night), about);
 }
 
-/* Two entries by day alone, with these Table 1 readings and trains. */
-#define TWO(reading, trains, second, its_trains)                                               \
-    "2 1 1\n2500 0 600 0 180 180 0 0 0 0 " reading " 0 0 0 0\n1 100 1 " trains " 0\n2500 0 600 0 180 180 0 0 0 0 " \
-    second " 0 0 0 0\n1 100 1 " its_trains " 0\n"
-#define MARKED_TOTAL TWO("91", "100", "4", "100") /* 67.0 and 58.3, which is 67.6 and marked */
-#define ROUNDED_DOWN TWO("21", "100", "77", "10") /* 60.0 and 55.6, which is 61.345 */
-#define MARKED_GROUND "1 1\n25000 0 350 5 180 180 0 0 0 0 0 0 0 0 0\n" TRAIN
-#define FAINT "1 1\n30000 0 600 0 5 5 0 0 0 0 0 -30 0 0 0\n8 20 1 1 1\n" /* -39.4 by day, -34.6 by night */
-
 /* A house beside a line that stays as it is and one whose trains become longer, faster and more. */
-#define HOUSE "1 1\n2600 180 420 3 160 170 0 0 0 0 0 0 1 0 0\n"
+#define HOUSE "1 1\n" HOUSE_SEGMENT
 #define HOUSE_ALTERED_BEFORE HOUSE "4 110 9 60 0\n"
 #define HOUSE_ALTERED_AFTER HOUSE "4 120 12 70 6\n"
 #define HOUSE_OTHER HOUSE "13 140 8 90 20\n"
@@ -306,7 +281,7 @@ static void test_limits(void)
 }
 
 /* A train that crawls (02's L4) and the same at 20 km/h: 49.5 and 45.5 dB. */
-#define SLOW(speed) "1 1\n2600 180 420 3 160 170 0 0 0 0 0 0 1 0 0\n4 " speed " 9 60 8\n"
+#define SLOW(speed) HOUSE "4 " speed " 9 60 8\n"
 
 /* Beside silent lines a level stays as it is and has no mark, in whatever place it stands. */
 static void test_alone(void)
@@ -469,41 +444,33 @@ static void test_marked_texts(void)
     }
 }
 
-/* Each refusal at each place, among lines that would entitle the house. */
+/* A refusal at each place, among lines that would entitle the house. */
+static void refuse_everywhere(lines refused, uint32_t number, uint32_t line)
+{
+    for (int set = 0; set < SETS; set++) {
+        char about[60];
+        snprintf(about, sizeof about, "refusal %u line %u of text %d", number, line, set + 1);
+        request r = house();
+        r.of[set] = refused;
+        expect_refusal(ask_request(r), number, set, line, about);
+    }
+}
+
 static void test_refusals(void)
 {
     enum { LIMIT = RAILNOISE_TEXT_LIMIT };
     static char long_text[LIMIT + 1];
     memset(long_text, ' ', sizeof long_text);
     memcpy(long_text, sample, sizeof sample - 1);
-    const struct { lines set; uint32_t number, line; } cases[] = {
-        { typed("1 1\n999 0 600 0 180 180 0 0 0 0 0 0 0 0 0\n" TRAIN), 1, 2 },
-        { typed("1 1\n2500 5001 600 0 180 180 0 0 0 0 0 0 0 0 0\n" TRAIN), 2, 2 },
-        { typed("1 1\n2500 0 600 11 180 180 0 0 0 0 0 0 0 0 0\n" TRAIN), 3, 2 },
-        { typed("2 1 1\n" SEGMENT TRAIN "2500 0 600 0 4 180 0 0 0 0 0 0 0 0 0\n" TRAIN), 4, 4 },
-        { typed("1 1\n2500 0 600 0 180 180 0 0 0 0 0 0 0 0 1\n" TRAIN), 5, 2 },
-        { typed("1 1\n2500 0 600 0 180 180 1 1000 5000 0 0 0 0 0 0\n" TRAIN), 6, 2 },
-        { typed("1 1\n2500 0 600 0 180 180 0 0 0 0 151 0 0 0 0\n" TRAIN), 7, 2 },
-        { typed("1 2\n" SEGMENT TRAIN "35 100 1 1 1\n"), 8, 4 },
-        { typed("1 1\n" SEGMENT "1 301 1 1 1\n"), 9, 3 },
-        { typed("1 1\n" SEGMENT "1 100 61 1 1\n"), 10, 3 },
-        { typed("1 1\n" SEGMENT "1 100 1 1 2001\n"), 11, 3 },
-        { typed("1 1\n" SEGMENT "1 100 1 1 1"), 12, 3 },
-        { typed("1 1\n" SEGMENT TRAIN TRAIN), 13, 4 },
-        { typed("1 0\n" SEGMENT), 13, 1 },
-        { typed(""), 13, 1 },
+    const struct { lines set; uint32_t number, line; } others[] = {
         { { NULL, 0, false }, 13, 1 },
         { { long_text, LIMIT, false }, 13, 8 },
         { { long_text, LIMIT + 1, false }, 12, 0 },
     };
-    for (size_t i = 0; i < COUNT(cases); i++)
-        for (int set = 0; set < SETS; set++) {
-            char about[60];
-            snprintf(about, sizeof about, "refusal %u line %u of text %d", cases[i].number, cases[i].line, set + 1);
-            request r = house();
-            r.of[set] = cases[i].set;
-            expect_refusal(ask_request(r), cases[i].number, set, cases[i].line, about);
-        }
+    for (size_t i = 0; i < COUNT(refused_texts); i++)
+        refuse_everywhere(typed(refused_texts[i].text), refused_texts[i].number, refused_texts[i].line);
+    for (size_t i = 0; i < COUNT(others); i++)
+        refuse_everywhere(others[i].set, others[i].number, others[i].line);
 }
 
 /* Whichever of the texts are refused, and whichever are marked: the first refused one without a mark counts. */
@@ -568,18 +535,15 @@ static void test_full_studies(void)
            levels(FULL_NIGHT + 30, FULL_NIGHT + 30, "yny"), "four full studies");
 }
 
-/* Whether a combination is one that document 01's rule for a total allows. Between 0.001 and 0.002 dB from a tie
- * the mark is free; marked, the louder tenth is taken. */
+/* Whether a combination is one that document 01's rule for a total allows. */
 static bool allowed(railnoise_period a, railnoise_period b, railnoise_combined c)
 {
     if (a.silent || b.silent) {
         railnoise_combined alone = at(a.silent && b.silent ? SILENT : a.silent ? b.level : a.level);
         return c.silent == alone.silent && c.level == alone.level && !c.close;
     }
-    long double tenths = 100 * log10l(powl(10, a.level / 100.0L) + powl(10, b.level / 100.0L));
-    long double lower = floorl(tenths), past_tie = tenths - lower - 0.5L;
-    bool must = fabsl(past_tie) <= 0.01L, may = fabsl(past_tie) < 0.02L;
-    return !c.silent && c.level == (int32_t)lower + (c.close || past_tie >= 0) && (c.close ? may : !must);
+    const int32_t both[2] = { a.level, b.level };
+    return !c.silent && total_allowed(both, COUNT(both), c.level, c.close);
 }
 
 static bool above(railnoise_combined high, bool low_silent, int32_t low)

@@ -2,6 +2,8 @@
 #ifndef TEXTS_H
 #define TEXTS_H
 
+#include "railnoise.h"
+
 #include <stdio.h>
 
 /* Document 01's sample, which is the memorandum's Example 8. */
@@ -24,6 +26,65 @@ static const char line_beside[] = "1 1\n5000 330 235 5 180 180 0 0 0 0 0 0 1 0 0
 #define SEGMENT "2500 0 600 0 180 180 0 0 0 0 0 0 0 0 0\n"
 #define TRAIN "1 100 1 1 1\n"
 enum { PLAIN_DAY = 148 + 712 - 481, PLAIN_NIGHT = 148 + 712 - 433 };
+
+/* A segment whose ground step is marked: -0.75 at 250 m, taken as -0.7, with -10.0 and -1.8. */
+#define MARKED_SEGMENT "25000 0 350 5 180 180 0 0 0 0 0 0 0 0 0\n"
+#define MARKED_GROUND "1 1\n" MARKED_SEGMENT TRAIN
+
+/* Two entries by day alone, with these Table 1 readings and trains. */
+#define TWO(reading, trains, second, its_trains)                                               \
+    "2 1 1\n2500 0 600 0 180 180 0 0 0 0 " reading " 0 0 0 0\n1 100 1 " trains " 0\n2500 0 600 0 180 180 0 0 0 0 " \
+    second " 0 0 0 0\n1 100 1 " its_trains " 0\n"
+#define MARKED_TOTAL TWO("91", "100", "4", "100") /* 67.0 and 58.3, which is 67.6 and marked */
+#define ROUNDED_DOWN TWO("21", "100", "77", "10") /* 60.0 and 55.6, which is 61.345 */
+#define FAINT "1 1\n30000 0 600 0 5 5 0 0 0 0 0 -30 0 0 0\n8 20 1 1 1\n" /* -39.4 by day, -34.6 by night */
+
+/* A segment beside a house, and one in a retained cut with a screen and a far wall. */
+#define HOUSE_SEGMENT "2600 180 420 3 160 170 0 0 0 0 0 0 1 0 0\n"
+#define CUT_SEGMENT "6200 150 300 4 90 120 1 900 260 0 0 0 1 10 15\n"
+
+/* Texts that are refused, by each number. */
+static const struct {
+    const char *text;
+    uint32_t number, line;
+} refused_texts[] = {
+    { "1 1\n999 0 600 0 180 180 0 0 0 0 0 0 0 0 0\n" TRAIN, 1, 2 },
+    { "1 1\n2500 5001 600 0 180 180 0 0 0 0 0 0 0 0 0\n" TRAIN, 2, 2 },
+    { "1 1\n2500 0 600 11 180 180 0 0 0 0 0 0 0 0 0\n" TRAIN, 3, 2 },
+    { "2 1 1\n" SEGMENT TRAIN "2500 0 600 0 4 180 0 0 0 0 0 0 0 0 0\n" TRAIN, 4, 4 },
+    { "1 1\n2500 0 600 0 180 180 0 0 0 0 0 0 0 0 1\n" TRAIN, 5, 2 },
+    { "1 1\n2500 0 600 0 180 180 1 1000 5000 0 0 0 0 0 0\n" TRAIN, 6, 2 },
+    { "1 1\n2500 0 600 0 180 180 0 0 0 0 151 0 0 0 0\n" TRAIN, 7, 2 },
+    { "1 2\n" SEGMENT TRAIN "35 100 1 1 1\n", 8, 4 },
+    { "1 1\n" SEGMENT "1 301 1 1 1\n", 9, 3 },
+    { "1 1\n" SEGMENT "1 100 61 1 1\n", 10, 3 },
+    { "1 1\n" SEGMENT "1 100 1 1 2001\n", 11, 3 },
+    { "1 1\n" SEGMENT "1 100 1 1 1", 12, 3 },
+    { "1 1\n" SEGMENT TRAIN TRAIN, 13, 4 },
+    { "1 0\n" SEGMENT, 13, 1 },
+    { "", 13, 1 },
+};
+
+/* Ten times the number of trains are 10.0 dB, the rest is the Table 1 reading. */
+static inline char *put_level(char *place, int32_t plain, int32_t level, bool night)
+{
+    bool silent = level == RAILNOISE_SILENT_CELL;
+    int trains = silent ? 0 : 1, reading = silent ? 0 : level - plain;
+    for (; reading >= 100; reading -= 100)
+        trains *= 10;
+    return place + sprintf(place, "2500 0 600 0 180 180 0 0 0 0 %d 0 0 0 0\n1 100 1 %d %d\n", reading,
+                           night ? 0 : trains, night ? trains : 0);
+}
+
+/* A study with these levels, from 37.9 by day and from 42.7 by night, each of an entry of its own, which has no
+ * trains in the other period. A level may be that of a silent cell. Takes up to 120 bytes; gives the length. */
+static inline size_t put_levels(char *text, int32_t day, int32_t night)
+{
+    char *end = text + sprintf(text, "2 1 1\n");
+    end = put_level(end, PLAIN_DAY, day, false);
+    end = put_level(end, PLAIN_NIGHT, night, true);
+    return (size_t)(end - text);
+}
 
 /* Puts the contents line of so many segments with so many train entries each, and gives the place after it. */
 static inline char *put_contents(char *text, int segments, int entries)
