@@ -52,21 +52,21 @@ static const struct {
 enum { ONE, SAMPLE, EIGHT, FULL, REFUSED, ROWS, TERMINAL_BEFORE = ROWS + 5, TERMINAL_AFTER, LINE_BESIDE, STUDIES };
 static const struct {
     const char *name;
-    int segments, entries, last_speed, different;
+    made_study made;
 } studies[STUDIES] = {
-    [ONE] = { "one", 1, 1, 150, 24 },
-    [SAMPLE] = { "sample", 0, 0, 0, 0 },
-    [EIGHT] = { "eight", 4, 2, 150, 24 },
-    [FULL] = { "full", 24, 4, 150, 24 },
-    [REFUSED] = { "refused", 24, 4, 301, 24 },
-    [ROWS] = { "24x1", 24, 1, 150, 6 },
-    { "24x2", 24, 2, 150, 6 },
-    { "24x4", 24, 4, 150, 6 },
-    { "6x4", 6, 4, 150, 6 },
-    { "12x4", 12, 4, 150, 6 },
-    [TERMINAL_BEFORE] = { "terminal_before", 0, 0, 0, 0 },
-    [TERMINAL_AFTER] = { "terminal_after", 0, 0, 0, 0 },
-    [LINE_BESIDE] = { "line_beside", 0, 0, 0, 0 },
+    [ONE] = { "one", { 1, 1, 150, 24 } },
+    [SAMPLE] = { "sample", { 0, 0, 0, 0 } },
+    [EIGHT] = { "eight", { 4, 2, 150, 24 } },
+    [FULL] = { "full", { 24, 4, 150, 24 } },
+    [REFUSED] = { "refused", { 24, 4, 301, 24 } },
+    [ROWS] = { "24x1", { 24, 1, 150, 6 } },
+    { "24x2", { 24, 2, 150, 6 } },
+    { "24x4", { 24, 4, 150, 6 } },
+    { "6x4", { 6, 4, 150, 6 } },
+    { "12x4", { 12, 4, 150, 6 } },
+    [TERMINAL_BEFORE] = { "terminal_before", { 0, 0, 0, 0 } },
+    [TERMINAL_AFTER] = { "terminal_after", { 0, 0, 0, 0 } },
+    [LINE_BESIDE] = { "line_beside", { 0, 0, 0, 0 } },
 };
 
 /* A request has the studies of its four sets in the order of the parameters, NONE for one marked as empty. As a
@@ -84,30 +84,6 @@ static const struct {
 static char texts[STUDIES + 1][RAILNOISE_TEXT_LIMIT];
 static size_t lengths[STUDIES + 1];
 
-/* So many segments, every second one screened, with so many trains each; the last train's speed as given.
- * After so many different segments the first ones come again. The first screened one has a far wall of
- * 2 m, the others none; in the texts by size it is every sixth segment. */
-static size_t write_study(char *text, int segments, int entries, int last_speed, int different)
-{
-    char *at = put_contents(text, segments, entries);
-    for (int place = 0; place < segments; place++) {
-        int i = place % different;
-        int d = 4000 + 1013 * i, view = 20 + 6 * i;
-        if (i % 2 == 0)
-            at += sprintf(at, "%d %d %d %d %d %d 0 0 0 0 10 -15 1 %d 0\n", d, 330 - 20 * i, 150 + 17 * i, i % 11, view,
-                          view + 5, view / 3);
-        else
-            at += sprintf(at, "%d %d 235 0 %d %d 2 500 %d 38 10 0 1 %d %d\n", d, 330 - 20 * i, view, view + 5,
-                          100 + 2 * i, view / 3, i == 1 ? 20 : 0);
-        for (int k = 0; k < entries; k++) {
-            int speed = place == segments - 1 && k == entries - 1 ? last_speed : 40 + 2 * i + 40 * k;
-            at += sprintf(at, "%d %d %d %d %d\n", 1 + (4 * i + k) % 34, speed, 1 + (7 * i + k) % 60, 3 + 20 * i + 5 * k,
-                          1 + 3 * i);
-        }
-    }
-    return (size_t)(at - text);
-}
-
 static void put_typed(int study, const char *text)
 {
     lengths[study] = strlen(text);
@@ -117,8 +93,7 @@ static void put_typed(int study, const char *text)
 static void write_texts(void)
 {
     for (int i = 0; i < STUDIES; i++)
-        lengths[i] = write_study(texts[i], studies[i].segments, studies[i].entries, studies[i].last_speed,
-                                 studies[i].different);
+        lengths[i] = write_part(texts[i], studies[i].made, 0, studies[i].made.segments);
     put_typed(SAMPLE, sample);
     put_typed(TERMINAL_BEFORE, terminal_before);
     put_typed(TERMINAL_AFTER, terminal_after);

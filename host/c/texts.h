@@ -112,4 +112,33 @@ static inline size_t full_study(char *text)
     return (size_t)(at - text);
 }
 
+/* A study by its size: so many segments, every second one screened, with so many trains each; the last train's
+ * speed as given. After so many different segments the first ones come again. The first screened one has a far wall
+ * of 2 m, the others none. */
+typedef struct {
+    int segments, entries, last_speed, different;
+} made_study;
+
+/* Its segments from place `first` up to `end`, counted from 0, as a text of their own; gives the length. */
+static inline size_t write_part(char *text, made_study of, int first, int end)
+{
+    char *at = put_contents(text, end - first, of.entries);
+    for (int place = first; place < end; place++) {
+        int i = place % of.different;
+        int d = 4000 + 1013 * i, view = 20 + 6 * i;
+        if (i % 2 == 0)
+            at += sprintf(at, "%d %d %d %d %d %d 0 0 0 0 10 -15 1 %d 0\n", d, 330 - 20 * i, 150 + 17 * i, i % 11, view,
+                          view + 5, view / 3);
+        else
+            at += sprintf(at, "%d %d 235 0 %d %d 2 500 %d 38 10 0 1 %d %d\n", d, 330 - 20 * i, view, view + 5,
+                          100 + 2 * i, view / 3, i == 1 ? 20 : 0);
+        for (int k = 0; k < of.entries; k++) {
+            bool last = place == of.segments - 1 && k == of.entries - 1;
+            at += sprintf(at, "%d %d %d %d %d\n", 1 + (4 * i + k) % 34, last ? of.last_speed : 40 + 2 * i + 40 * k,
+                          1 + (7 * i + k) % 60, 3 + 20 * i + 5 * k, 1 + 3 * i);
+        }
+    }
+    return (size_t)(at - text);
+}
+
 #endif
