@@ -409,10 +409,10 @@ static void test_sixteen_marks(void)
 /* A text marked as empty may be anything. */
 static void test_marked_texts(void)
 {
-    static char long_text[RAILNOISE_TEXT_LIMIT + 1];
-    memset(long_text, '7', sizeof long_text);
+    static char sevens[RAILNOISE_TEXT_LIMIT + 1];
+    memset(sevens, '7', sizeof sevens);
     lines texts[] = {
-        none, typed(""), { "\0\xff\n\n-1 2", 8, true }, { long_text, sizeof long_text, true }, both(720),
+        none, typed(""), { "\0\xff\n\n-1 2", 8, true }, { sevens, sizeof sevens, true }, both(720),
         typed("1 1\n" SEGMENT "1 0 1 1 1\n"), typed("1 1\n" SEGMENT "1 100 1 1 1"),
     };
     const struct { period day, night; const char *about; } expected[SETS] = {
@@ -458,19 +458,11 @@ static void refuse_everywhere(lines refused, uint32_t number, uint32_t line)
 
 static void test_refusals(void)
 {
-    enum { LIMIT = RAILNOISE_TEXT_LIMIT };
-    static char long_text[LIMIT + 1];
-    memset(long_text, ' ', sizeof long_text);
-    memcpy(long_text, sample, sizeof sample - 1);
-    const struct { lines set; uint32_t number, line; } others[] = {
-        { { NULL, 0, false }, 13, 1 },
-        { { long_text, LIMIT, false }, 13, 8 },
-        { { long_text, LIMIT + 1, false }, 12, 0 },
-    };
     for (size_t i = 0; i < COUNT(refused_texts); i++)
         refuse_everywhere(typed(refused_texts[i].text), refused_texts[i].number, refused_texts[i].line);
-    for (size_t i = 0; i < COUNT(others); i++)
-        refuse_everywhere(others[i].set, others[i].number, others[i].line);
+    refuse_everywhere((lines){ NULL, 0, false }, 13, 1);
+    refuse_everywhere((lines){ long_text(), RAILNOISE_TEXT_LIMIT, false }, 13, 8);
+    refuse_everywhere((lines){ long_text(), RAILNOISE_TEXT_LIMIT + 1, false }, 12, 0);
 }
 
 /* Whichever of the texts are refused, and whichever are marked: the first refused one without a mark counts. */

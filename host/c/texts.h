@@ -5,6 +5,7 @@
 #include "railnoise.h"
 
 #include <stdio.h>
+#include <string.h>
 
 /* Document 01's sample, which is the memorandum's Example 8. */
 static const char sample[] =
@@ -64,6 +65,15 @@ static const struct {
     { "1 0\n" SEGMENT, 13, 1 },
     { "", 13, 1 },
 };
+
+/* The sample and then spaces, one byte more than a text may have: refused at line 0, without that byte at line 8. */
+static inline const char *long_text(void)
+{
+    static char text[RAILNOISE_TEXT_LIMIT + 1];
+    memset(text, ' ', sizeof text);
+    memcpy(text, sample, sizeof sample - 1);
+    return text;
+}
 
 /* Ten times the number of trains are 10.0 dB, the rest is the Table 1 reading. */
 static inline char *put_level(char *place, int32_t plain, int32_t level, bool night)
