@@ -23,6 +23,16 @@ static const char terminal_before[] = "1 2\n2000 330 235 5 180 180 0 0 0 0 0 0 1
 static const char terminal_after[] = "1 2\n2000 330 235 5 180 180 0 0 0 0 0 0 1 0 0\n20 50 30 24 8\n26 50 1 24 8\n";
 static const char line_beside[] = "1 1\n5000 330 235 5 180 180 0 0 0 0 0 0 1 0 0\n10 120 8 80 20\n";
 
+/* A main line at that house, which another team has drawn: in the open to one side, behind a screen to the other. The
+ * terminal's track after the works is the yard's drawing beside it. */
+static const char main_line[] =
+    "2 1 2\n"
+    "5000 330 235 5 140 140 0 0 0 0 0 0 1 0 0\n"
+    "10 120 8 80 24\n"
+    "5000 330 235 0 40 40 1 800 200 0 0 0 1 0 0\n"
+    "10 120 8 80 24\n"
+    "20 90 25 12 6\n";
+
 /* A segment that adds nothing, and a train; the tenths of its level by day and by night. */
 #define SEGMENT "2500 0 600 0 180 180 0 0 0 0 0 0 0 0 0\n"
 #define TRAIN "1 100 1 1 1\n"
