@@ -1,5 +1,5 @@
 #!/bin/sh
-# Speed, instructions and stack of the product's two C functions beside the plain C program, with strtol (plain) and
+# Speed, instructions and stack of the product's three C functions beside the plain C program, with strtol (plain) and
 # with a digit loop of its own (digits).
 #   host/bench.sh [--counts] [ARCHIVE] [TEXTS]
 # --counts: what is the same from run to run alone, no times; ARCHIVE: the static library to test, by default the product's, with
@@ -62,6 +62,7 @@ counted() {
 
 counted instr one sample eight full refused
 counted request night new full4 refused4
+counted merged two halves refused2
 echo
 echo "# Instructions by size; from the second row what each further entry, or segment with 4 entries, has added"
 

@@ -1,11 +1,12 @@
-/* Speed and stack of railnoise_levels and railnoise_entitlement beside the plain program's two forms.
+/* Speed and stack of the product's three C functions beside the plain program's two forms.
  *
  *   bench check                                nothing but what each of them does first: all give the same answers
  *   bench time [ROUNDS]                        nanoseconds of one call, by row, and the product's ratios
  *   bench call product|plain|digits ROW COUNT  COUNT calls, for an instruction counter
  *   bench stack                                bytes of stack that one call reaches
  *
- * A row is a study, which is put to railnoise_levels, or a request, which is put to railnoise_entitlement.
+ * A row is a study, which is put to railnoise_levels, a request, which is put to railnoise_entitlement, or two
+ * drawings, which are put to railnoise_merged_levels.
  */
 #define _GNU_SOURCE
 #include "plain.h"
@@ -34,22 +35,34 @@ static railnoise_entitlement_answer no_entitlement(SET(altered_before), SET(alte
     return (railnoise_entitlement_answer){ .refusal = 0 };
 }
 
+static railnoise_merged_answer no_merged_levels(const uint8_t *first, size_t first_length, const uint8_t *second,
+                                                size_t second_length, int32_t *cells, size_t cell_count)
+{
+    (void)first, (void)first_length, (void)second, (void)second_length, (void)cells, (void)cell_count;
+    return (railnoise_merged_answer){ .refusal = 0 };
+}
+
 /* The last does nothing: the stack that its call reaches is taken off the others'. */
 enum { PRODUCT, PLAIN, DIGITS, PROGRAMS, NOTHING = PROGRAMS };
 static const struct {
     const char *name;
     levels_function *levels;
     entitlement_function *entitlement;
+    merged_function *merged_levels;
 } programs[] = {
-    [PRODUCT] = { "product", railnoise_levels, railnoise_entitlement },
-    [PLAIN] = { "plain", plain_levels, plain_entitlement },
-    [DIGITS] = { "digits", digits_levels, digits_entitlement },
-    [NOTHING] = { "nothing", no_levels, no_entitlement },
+    [PRODUCT] = { "product", railnoise_levels, railnoise_entitlement, railnoise_merged_levels },
+    [PLAIN] = { "plain", plain_levels, plain_entitlement, plain_merged_levels },
+    [DIGITS] = { "digits", digits_levels, digits_entitlement, digits_merged_levels },
+    [NOTHING] = { "nothing", no_levels, no_entitlement, no_merged_levels },
 };
 
-/* The rows of the tables, and then the sizes, which repeat six segments so that only their number differs; last
- * those that only requests have. */
-enum { ONE, SAMPLE, EIGHT, FULL, REFUSED, ROWS, TERMINAL_BEFORE = ROWS + 5, TERMINAL_AFTER, LINE_BESIDE, STUDIES };
+/* The rows of the tables, and then the sizes, which repeat six segments so that only their number differs; then
+ * those that only requests have, and last those that are drawings alone. */
+enum {
+    ONE, SAMPLE, EIGHT, FULL, REFUSED, ROWS,
+    TERMINAL_BEFORE = ROWS + 5, TERMINAL_AFTER, LINE_BESIDE,
+    MAIN_LINE, FIRST_HALF, SECOND_HALF, REFUSED_HALF, STUDIES
+};
 static const struct {
     const char *name;
     made_study made;
@@ -67,6 +80,10 @@ static const struct {
     [TERMINAL_BEFORE] = { "terminal_before", { 0, 0, 0, 0 } },
     [TERMINAL_AFTER] = { "terminal_after", { 0, 0, 0, 0 } },
     [LINE_BESIDE] = { "line_beside", { 0, 0, 0, 0 } },
+    [MAIN_LINE] = { "main_line", { 0, 0, 0, 0 } },
+    [FIRST_HALF] = { "first_half", { 0, 0, 0, 0 } },
+    [SECOND_HALF] = { "second_half", { 0, 0, 0, 0 } },
+    [REFUSED_HALF] = { "refused_half", { 0, 0, 0, 0 } },
 };
 
 /* A request has the studies of its four sets in the order of the parameters, NONE for one marked as empty. As a
@@ -80,6 +97,17 @@ static const struct {
     [NEW] = { "new", { NONE, TERMINAL_AFTER, NONE, LINE_BESIDE } },
     [FULL4] = { "full4", { FULL, FULL, FULL, FULL } },
     [REFUSED4] = { "refused4", { FULL, FULL, FULL, REFUSED } },
+};
+
+/* Two drawings. As rows they are counted on from the requests. */
+enum { YARD_AND_LINE, HALVES, REFUSED2, MERGED, MERGED_ROW = STUDIES + REQUESTS, ALL_ROWS = MERGED_ROW + MERGED };
+static const struct {
+    const char *name;
+    int first, second;
+} merged[MERGED] = {
+    [YARD_AND_LINE] = { "two", TERMINAL_AFTER, MAIN_LINE },
+    [HALVES] = { "halves", FIRST_HALF, SECOND_HALF },
+    [REFUSED2] = { "refused2", FIRST_HALF, REFUSED_HALF },
 };
 static char texts[STUDIES + 1][RAILNOISE_TEXT_LIMIT];
 static size_t lengths[STUDIES + 1];
@@ -98,11 +126,14 @@ static void write_texts(void)
     put_typed(TERMINAL_BEFORE, terminal_before);
     put_typed(TERMINAL_AFTER, terminal_after);
     put_typed(LINE_BESIDE, line_beside);
+    put_typed(MAIN_LINE, main_line);
+    lengths[FIRST_HALF] = write_part(texts[FIRST_HALF], studies[FULL].made, 0, 12);
+    lengths[SECOND_HALF] = write_part(texts[SECOND_HALF], studies[FULL].made, 12, 24);
+    lengths[REFUSED_HALF] = write_part(texts[REFUSED_HALF], studies[REFUSED].made, 12, 24);
 }
 
-static railnoise_answer ask_levels(levels_function *levels, int study)
+static railnoise_answer ask_levels(levels_function *levels, int study, int32_t *cells)
 {
-    int32_t cells[RAILNOISE_MOST_CELLS];
     return levels((const uint8_t *)texts[study], lengths[study], cells, RAILNOISE_MOST_CELLS);
 }
 
@@ -113,24 +144,38 @@ static railnoise_entitlement_answer ask_entitlement(entitlement_function *entitl
     return entitlement(TEXT_OF(sets[0]), TEXT_OF(sets[1]), TEXT_OF(sets[2]), TEXT_OF(sets[3]));
 }
 
+static railnoise_merged_answer ask_merged(merged_function *levels, int row, int32_t *cells)
+{
+    int first = merged[row].first, second = merged[row].second;
+    return levels((const uint8_t *)texts[first], lengths[first], (const uint8_t *)texts[second], lengths[second],
+                  cells, RAILNOISE_MOST_CELLS);
+}
+
 static const char *row_name(int row)
 {
-    return row < STUDIES ? studies[row].name : requests[row - STUDIES].name;
+    return row < STUDIES      ? studies[row].name
+           : row < MERGED_ROW ? requests[row - STUDIES].name
+                              : merged[row - MERGED_ROW].name;
 }
 
 static void call(int program, int row)
 {
+    int32_t cells[RAILNOISE_MOST_CELLS];
     if (row < STUDIES)
-        ask_levels(programs[program].levels, row);
-    else
+        ask_levels(programs[program].levels, row, cells);
+    else if (row < MERGED_ROW)
         ask_entitlement(programs[program].entitlement, row - STUDIES);
+    else
+        ask_merged(programs[program].merged_levels, row - MERGED_ROW, cells);
 }
 
-/* One text is refused, at its last line; on the others all give the same levels. */
+/* Two texts are refused, at their last lines; on the others all give the same levels. */
 static bool study_expected(levels_function *levels, int study)
 {
-    railnoise_answer answer = ask_levels(levels, study), product = ask_levels(railnoise_levels, study);
-    return answer.refusal == (study == REFUSED ? 9 : 0) && answer.line == (study == REFUSED ? 121 : 0) &&
+    int32_t cells[RAILNOISE_MOST_CELLS];
+    railnoise_answer answer = ask_levels(levels, study, cells), product = ask_levels(railnoise_levels, study, cells);
+    uint32_t refused_line = study == REFUSED ? 121 : study == REFUSED_HALF ? 61 : 0;
+    return answer.refusal == (refused_line > 0 ? 9 : 0) && answer.line == refused_line &&
            (study != SAMPLE || answer.day.level == 629) && answer.day.level == product.day.level &&
            answer.night.level == product.night.level;
 }
@@ -160,12 +205,42 @@ static bool request_expected(entitlement_function *entitlement, int request)
            answer.entitled == product.entitled;
 }
 
+static bool same_total(railnoise_period a, railnoise_period b)
+{
+    return a.silent == b.silent && a.level == b.level && a.close == b.close && a.met == b.met;
+}
+
+/* One of two drawings is refused, at its last line; yard and main line are 63.9 and 63.6; the halves of the full study
+ * are that study; all answers and cells are the same. */
+static bool merged_expected(merged_function *levels, int row)
+{
+    int32_t cells[RAILNOISE_MOST_CELLS] = { 0 }, product_cells[RAILNOISE_MOST_CELLS] = { 0 };
+    railnoise_merged_answer answer = ask_merged(levels, row, cells);
+    railnoise_merged_answer product = ask_merged(railnoise_merged_levels, row, product_cells);
+    bool refused = row == REFUSED2, same = memcmp(cells, product_cells, sizeof cells) == 0;
+    if (row == HALVES) {
+        railnoise_answer whole = ask_levels(railnoise_levels, FULL, product_cells);
+        same = same && same_total(answer.day, whole.day) && same_total(answer.night, whole.night) &&
+               memcmp(cells, product_cells, sizeof cells) == 0;
+    }
+    return same && answer.refusal == (refused ? 9 : 0) && answer.text == (refused ? 2 : 0) &&
+           answer.line == (refused ? 61 : 0) &&
+           (row != YARD_AND_LINE || (answer.day.level == 639 && answer.night.level == 636)) &&
+           same_total(answer.day, product.day) && same_total(answer.night, product.night);
+}
+
+static bool row_expected(int program, int row)
+{
+    return row < STUDIES      ? study_expected(programs[program].levels, row)
+           : row < MERGED_ROW ? request_expected(programs[program].entitlement, row - STUDIES)
+                              : merged_expected(programs[program].merged_levels, row - MERGED_ROW);
+}
+
 /* What the bench rests on. */
 static void check_answers(int program)
 {
-    for (int row = 0; row < STUDIES + REQUESTS; row++)
-        if (row < STUDIES ? !study_expected(programs[program].levels, row)
-                          : !request_expected(programs[program].entitlement, row - STUDIES)) {
+    for (int row = 0; row < ALL_ROWS; row++)
+        if (!row_expected(program, row)) {
             fprintf(stderr, "bench: unexpected answer to %s by %s\n", row_name(row), programs[program].name);
             exit(1);
         }
@@ -282,12 +357,14 @@ int main(int count, char **words)
         if (rounds < 1 || rounds > 101)
             return usage();
         time_rows("ns", 0, ROWS, rounds);
-        time_rows("request", STUDIES, STUDIES + REQUESTS, rounds);
+        time_rows("request", STUDIES, MERGED_ROW, rounds);
+        time_rows("merged", MERGED_ROW, ALL_ROWS, rounds);
         return 0;
     }
     if (count == 2 && strcmp(words[1], "stack") == 0) {
         measure_stack("stack", 0, ROWS);
-        measure_stack("request", STUDIES, STUDIES + REQUESTS);
+        measure_stack("request", STUDIES, MERGED_ROW);
+        measure_stack("merged", MERGED_ROW, ALL_ROWS);
         return 0;
     }
     if (count != 5 || strcmp(words[1], "call") != 0)
@@ -295,9 +372,9 @@ int main(int count, char **words)
     int program = 0, row = 0;
     while (program < PROGRAMS && strcmp(words[2], programs[program].name) != 0)
         program++;
-    while (row < STUDIES + REQUESTS && strcmp(words[3], row_name(row)) != 0)
+    while (row < ALL_ROWS && strcmp(words[3], row_name(row)) != 0)
         row++;
-    if (program == PROGRAMS || row == STUDIES + REQUESTS)
+    if (program == PROGRAMS || row == ALL_ROWS)
         return usage();
     int calls = atoi(words[4]);
     for (int i = 0; i < calls; i++)

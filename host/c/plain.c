@@ -1,6 +1,6 @@
 /* The two anchors for speed: what an engineer would write in an afternoon, with libm. Compiled as it
- * is, it is plain_levels and plain_entitlement and reads numbers with strtol; with DIGIT_LOOP defined it
- * is digits_levels and digits_entitlement and reads them with a loop of its own. They differ in
+ * is, it is plain_levels, plain_entitlement and plain_merged_levels and reads numbers with strtol; with
+ * DIGIT_LOOP defined it is digits_levels and so on and reads them with a loop of its own. They differ in
  * read_number alone.
  * Doubles throughout and no care for ties, so both misread some studies; the differential program
  * counts how many. */
@@ -14,9 +14,11 @@
 #ifdef DIGIT_LOOP
 #define LEVELS digits_levels
 #define ENTITLEMENT digits_entitlement
+#define MERGED_LEVELS digits_merged_levels
 #else
 #define LEVELS plain_levels
 #define ENTITLEMENT plain_entitlement
+#define MERGED_LEVELS plain_merged_levels
 #endif
 
 #define MOST_SEGMENTS 24
@@ -212,7 +214,7 @@ static void work_out_entry(const study *s, entry *e)
     e->tenths += nearest_tenth(10.0 * log10((double)e->vehicles));
 }
 
-/* The text with a zero byte after it; 0 when the study is read, else the refusal with its line. */
+/* Of a text with a zero byte after it; 0 when the study is read, else the refusal with its line. */
 static uint32_t read_study(const char *text, const char *end, study *s, uint32_t *line)
 {
     long contents[MOST_SEGMENTS + 1], n[FIELDS], total = 0;
@@ -291,20 +293,29 @@ static railnoise_period period_result(const study *s, int period, int32_t *cells
     return result;
 }
 
+/* 0 when the study is read, else the refusal; the line is 0 where there is none. */
+static uint32_t read_text(const uint8_t *text, size_t length, study *s, uint32_t *line)
+{
+    char copy[RAILNOISE_TEXT_LIMIT + 1];
+    *line = 0;
+    if (length > RAILNOISE_TEXT_LIMIT)
+        return 12;
+    if (length > 0)
+        memcpy(copy, text, length);
+    copy[length] = '\0';
+    uint32_t refusal = read_study(copy, copy + length, s, line);
+    if (!refusal)
+        *line = 0;
+    return refusal;
+}
+
 railnoise_answer LEVELS(const uint8_t *text, size_t text_length, int32_t *cells, size_t cell_count)
 {
-    railnoise_answer answer = { 12, 0, { true, 0, 0, false }, { true, 0, 0, false } };
-    char copy[RAILNOISE_TEXT_LIMIT + 1];
+    railnoise_answer answer = { 0, 0, { true, 0, 0, false }, { true, 0, 0, false } };
     study s;
-    if (text_length > RAILNOISE_TEXT_LIMIT)
-        return answer;
-    if (text_length > 0)
-        memcpy(copy, text, text_length);
-    copy[text_length] = '\0';
-    answer.refusal = read_study(copy, copy + text_length, &s, &answer.line);
+    answer.refusal = read_text(text, text_length, &s, &answer.line);
     if (answer.refusal)
         return answer;
-    answer.line = 0;
     if (cell_count < 2 * (size_t)s.entry_count) {
         answer.refusal = 24;
         return answer;
@@ -365,5 +376,45 @@ railnoise_entitlement_answer ENTITLEMENT(SET(altered_before), SET(altered_after)
     answer.day = conditions(day, 0);
     answer.night = conditions(night, 1);
     answer.entitled = answer.day.entitled || answer.night.entitled;
+    return answer;
+}
+
+/* The second's segments and entries after the first's; 0, or the refusal of too many. */
+static uint32_t append(study *first, const study *second)
+{
+    if (first->segment_count + second->segment_count > MOST_SEGMENTS)
+        return 21;
+    if (first->entry_count + second->entry_count > MOST_ENTRIES)
+        return 22;
+    for (int i = 0; i < second->entry_count; i++) {
+        entry *e = &first->entries[first->entry_count++];
+        *e = second->entries[i];
+        e->segment += first->segment_count;
+    }
+    for (int i = 0; i < second->segment_count; i++)
+        first->segments[first->segment_count++] = second->segments[i];
+    return 0;
+}
+
+railnoise_merged_answer MERGED_LEVELS(const uint8_t *first, size_t first_length, const uint8_t *second,
+                                      size_t second_length, int32_t *cells, size_t cell_count)
+{
+    railnoise_merged_answer answer = { 0, 0, 0, { true, 0, 0, false }, { true, 0, 0, false } };
+    study one, two;
+    answer.text = 1;
+    if ((answer.refusal = read_text(first, first_length, &one, &answer.line)))
+        return answer;
+    answer.text = 2;
+    if ((answer.refusal = read_text(second, second_length, &two, &answer.line)))
+        return answer;
+    answer.text = 0;
+    if ((answer.refusal = append(&one, &two)))
+        return answer;
+    if (cell_count < 2 * (size_t)one.entry_count) {
+        answer.refusal = 24;
+        return answer;
+    }
+    answer.day = period_result(&one, 0, cells);
+    answer.night = period_result(&one, 1, cells + one.entry_count);
     return answer;
 }
