@@ -26,16 +26,16 @@ unfolding mergeCheck checkNumber numberOf
 laws l fit =
     record {
       extra-segment = λ a b.
-        (λ e. twenty-one l _ _ (sym (ap checkNumber (merged-check l a b)) ∙ e), λ h. ap checkNumber (merged-check l a b ∙ segments-over l _ _ h));
+          (λ e. twenty-one l _ _ (sym (ap checkNumber (merged-check l a b)) ∙ e), λ h. ap checkNumber (merged-check l a b ∙ segments-over l _ _ h));
       extra-entry = λ a b.
-        (λ e. twenty-two l _ _ (sym (ap checkNumber (merged-check l a b)) ∙ e), λ h. ap checkNumber (merged-check l a b ∙ entries-over l _ _ (h .0) (h .1)));
+          (λ e. twenty-two l _ _ (sym (ap checkNumber (merged-check l a b)) ∙ e), λ h. ap checkNumber (merged-check l a b ∙ entries-over l _ _ (h .0) (h .1)));
       else-accepted = λ a b h k. merged-check l a b ∙ both-within l _ _ h k;
       given-back = given-back l;
       lists = lists l fit;
       is-run = is-run l fit;
       is-whole = is-whole l fit;
       answered-whole = λ xs ys e before after r.
-        (subst (λ (st : Study). Answered st before after r) (is-whole l fit xs ys e), subst (λ (st : Study). Answered st before after r) (sym (is-whole l fit xs ys e)));
+          (subst (λ (st : Study). Answered st before after r) (is-whole l fit xs ys e), subst (λ (st : Study). Answered st before after r) (sym (is-whole l fit xs ys e)));
       own-levels = λ p xs ys. own-levels (accepted l xs) (accepted l ys) p (accepted-held l xs);
       own-fences = λ p xs ys. own-fences (accepted l xs) (accepted l ys) p (accepted-held l xs);
       with-empty = with-empty l fit;

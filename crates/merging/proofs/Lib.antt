@@ -3,4 +3,3 @@ pub mod Joining
 pub mod Merges
 pub mod OwnLevels
 pub mod Laws
-pub mod Texts

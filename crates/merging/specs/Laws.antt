@@ -40,7 +40,6 @@ pub record MergeLaws (l : Limits) : Type 0 where
   pub extra-entry : (first second : Study) → (checkNumber (merged l first second .check) ≡ 22) ↔ ((segmentsTogether first second ≤ l .segments) × (l .entries < entriesTogether first second))
   pub else-accepted : (first second : Study) → segmentsTogether first second ≤ l .segments → entriesTogether first second ≤ l .entries → merged l first second .check ≡ Accepted
   pub given-back : (first second : Study) (r : Refusal) → merged l first second .check ≡ Refused r → merged l first second .study ≡ first
-
   -- of the studies of two lists of additions: the merged study holds the two lists joined, so nothing is refused on the way
   pub lists : (xs ys : List Addition) → planOf (merged l (run l xs) (run l ys) .study) ≡ mergedPlan l (accepted l xs) (accepted l ys)
   -- it is the study of the first list, and after it of what the second has had accepted; what was refused there stays out, as a train before any segment
@@ -49,13 +48,11 @@ pub record MergeLaws (l : Limits) : Type 0 where
   pub is-whole : (xs ys : List Addition) → merged l (run l xs) (run l ys) .check ≡ Accepted → merged l (run l xs) (run l ys) .study ≡ run l (typedWhole l xs ys)
   pub answered-whole : (xs ys : List Addition) → merged l (run l xs) (run l ys) .check ≡ Accepted → (before after : List ℤ) (r : Answer) →
       Answered (merged l (run l xs) (run l ys) .study) before after r ↔ Answered (run l (typedWhole l xs ys)) before after r
-
   -- each entry has the level that it has in its own study, by the program's own marks, and the fence
   pub own-levels : (p : Period) (xs ys : List Addition) → let a = accepted l xs in let b = accepted l ys in
       levelsOf p (joined a b) (ownMarks (joined a b)) ≡ levelsOf p a (ownMarks a) ++ levelsOf p b (ownMarks b)
   pub own-fences : (p : Period) (xs ys : List Addition) → let a = accepted l xs in let b = accepted l ys in
       fencesOf p (joined a b) (joined a b .entries) ≡ fencesOf p a (a .entries) ++ fencesOf p b (b .entries)
-
   -- merged with the empty study, on either side, a study is what it was
   pub with-empty : (xs : List Addition) → merged l (run l xs) emptyStudy ≡ record { check = Accepted; study = run l xs }
   pub to-empty : (xs : List Addition) → merged l emptyStudy (run l xs) ≡ record { check = Accepted; study = run l xs }

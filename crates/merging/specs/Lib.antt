@@ -1,4 +1,3 @@
 pub mod Merge
 pub mod Joined
 pub mod Laws
-pub mod Texts

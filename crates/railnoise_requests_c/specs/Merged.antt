@@ -8,8 +8,8 @@ use lib.ListN.{length}
 use Rattle.figures.specs.Refusal.{checkNumber}
 use Rattle.request.specs.Levels.{ownMarks, MarksAllowed}
 use Rattle.text.specs.Answer.{cellsWith}
-use Rattle.merging.specs.declared.MergedAnswer.{MergedAnswer}
-use Rattle.merging.specs.Texts.{mergedIn, mergedAnswer, mergedCheck}
+use Rattle.drawings.specs.declared.MergedAnswer.{MergedAnswer}
+use Rattle.drawings.specs.Drawings.{mergedIn, mergedAnswer, mergedCheck}
 use Rattle.c_values.specs.Values.{lineValue, exportedPeriod}
 use Rattle.railnoise_requests_c.specs.declared.RailnoiseMergedAnswer.{RailnoiseMergedAnswer}
 

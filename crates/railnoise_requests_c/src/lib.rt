@@ -9,6 +9,8 @@ use c_values::level_value;
 use c_values::line_value;
 use c_values::period_value;
 use decibel::Level;
+use drawings::MergedAnswer;
+use drawings::merged_levels;
 use energy::Total;
 use entitlement::Change;
 use entitlement::Entitlement;
@@ -19,8 +21,6 @@ use entitlement::refused_entitlement;
 use figures::Check;
 use figures::Refusal;
 use figures::check_number;
-use merging::MergedAnswer;
-use merging::merged_levels;
 use request::MOST_CELLS;
 use text::text_levels;
 

@@ -1,9 +1,9 @@
--- `merging::refused_at` meets its contract.
+-- `drawings::refused_at` meets its contract.
 -- Assumes nothing.
 use borrow.Author.Needs.{needs}
 use mathlib.Core.Path.{refl}
-use Rattle.merging.proofs.refused_at.Statement.{statement}
-use Rattle.merging.proofs.refused_at.Tie as tie
+use Rattle.drawings.proofs.refused_at.Statement.{statement}
+use Rattle.drawings.proofs.refused_at.Tie as tie
 
 returns : tie.Need-returns
 returns c = rw (c .told-at .ensures, c .before .refusal-answer .ensures .0) refl

@@ -1,10 +1,10 @@
--- `merging::merged_levels` meets its contract.
+-- `drawings::merged_levels` meets its contract.
 -- Assumes nothing.
 use borrow.Author.Needs.{needs}
 use mathlib.Core.Path.{refl}
-use Rattle.merging.proofs.Texts.{first-refused, second-refused, merge-refused, levels-asked}
-use Rattle.merging.proofs.merged_levels.Statement.{statement}
-use Rattle.merging.proofs.merged_levels.Tie as tie
+use Rattle.drawings.proofs.Answers.{first-refused, second-refused, merge-refused, levels-asked}
+use Rattle.drawings.proofs.merged_levels.Statement.{statement}
+use Rattle.drawings.proofs.merged_levels.Tie as tie
 
 -- how the places of the code follow one another: from what is accepted to what came before it
 abbrev first-of : tie.After-read-text2 → tie.After-read-text

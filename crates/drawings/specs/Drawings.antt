@@ -17,8 +17,8 @@ use Rattle.request.specs.Levels.{ownMarks, MarksAllowed}
 use Rattle.request.specs.Request.{levelsCheck, refusedBy, answerBy}
 use Rattle.text.specs.Text.{readText}
 use Rattle.text.specs.Answer.{cellsWith}
-use Rattle.merging.specs.declared.MergedAnswer.{MergedAnswer}
+use Rattle.drawings.specs.declared.MergedAnswer.{MergedAnswer}
 use Rattle.merging.specs.Merge.{merged}
 
 -- the study of both texts, and what it holds
 abbrev pub mergedOf : List ℕ → List ℕ → Added

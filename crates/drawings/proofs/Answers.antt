@@ -23,10 +23,10 @@ use Rattle.text.specs.declared.Reading.{Reading}
 use Rattle.text.specs.Text.{readText}
 use Rattle.text.specs.Answer.{cellsWith}
 use Rattle.text.proofs.Runs.{text-is-run}
-use Rattle.merging.specs.declared.MergedAnswer.{MergedAnswer}
+use Rattle.drawings.specs.declared.MergedAnswer.{MergedAnswer}
 use Rattle.merging.specs.Merge.{merged}
-use Rattle.merging.specs.Texts.{mergedOf, mergedIn, toldAt, unlessRefused, mergedAnswer, mergedCheck, mergedAnswerNumber, MergedAnswered}
+use Rattle.drawings.specs.Drawings.{mergedOf, mergedIn, toldAt, unlessRefused, mergedAnswer, mergedCheck, mergedAnswerNumber, MergedAnswered}
 use Rattle.merging.proofs.Merges.{merge-is-run}
 
 -- the check of a request's answer
 answer-check : (c : Check) (plan : Plan) (m : Marks) → answerBy c plan m .check ≡ c
