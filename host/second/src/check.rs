@@ -242,16 +242,27 @@ fn check_levels(study: &Study, before: &[i32], after: &[i32], answer: &Answer) -
     Ok(report)
 }
 
-/// Whether 01 allows this answer with these cells after it, for this text and these cells before it.
-pub fn check(text: &[u8], before: &[i32], after: &[i32], answer: &Answer) -> Result<Report, Difference> {
+/// Whether 01 allows this answer with these cells after it, for cells before it and for what a request's reading came
+/// to: a study, whose cells are then counted, or a refusal.
+pub fn check_outcome(
+    outcome: Result<Study, Refusal>,
+    before: &[i32],
+    after: &[i32],
+    answer: &Answer,
+) -> Result<Report, Difference> {
     assert_eq!(before.len(), after.len());
-    match read(text) {
+    match outcome {
         Err(refusal) => check_refusal(refusal, before, after, answer),
         Ok(study) if before.len() < 2 * study.entries.len() => {
             check_refusal(Refusal { number: CELLS_SHORT, line: 0 }, before, after, answer)
         }
         Ok(study) => check_levels(&study, before, after, answer),
     }
+}
+
+/// The same for one text.
+pub fn check(text: &[u8], before: &[i32], after: &[i32], answer: &Answer) -> Result<Report, Difference> {
+    check_outcome(read(text), before, after, answer)
 }
 
 #[cfg(test)]

@@ -61,12 +61,17 @@ fn answered(study: &Study, cells: &mut [i32], turned: bool) -> Answer {
     }
 }
 
-pub fn levels(text: &[u8], cells: &mut [i32], turned: bool) -> Answer {
-    match read(text) {
+/// What a request's reading came to: a study, whose cells are then counted, or a refusal.
+fn answer_to(outcome: Result<Study, Refusal>, cells: &mut [i32], turned: bool) -> Answer {
+    match outcome {
         Err(refusal) => Answer::refused(refusal),
         Ok(study) if cells.len() < 2 * study.entries.len() => Answer::refused(Refusal { number: CELLS_SHORT, line: 0 }),
         Ok(study) => answered(&study, cells, turned),
     }
+}
+
+pub fn levels(text: &[u8], cells: &mut [i32], turned: bool) -> Answer {
+    answer_to(read(text), cells, turned)
 }
 
 fn combined(one: Level, other: Level, turned: bool) -> Combined {
