@@ -59,7 +59,8 @@ fn a_speed_is_kept_as_typed() {
 fn entries_of_texts(count: u64) -> Vec<Entry> {
     let numbers = |line: &str| line.split(' ').map(|word| word.parse().ok()).collect::<Option<Vec<i32>>>();
     let entry = |line: &str| numbers(line)?.try_into().ok().map(|list| Entry::from_numbers(&list));
-    let in_text = |text: Vec<u8>| String::from_utf8_lossy(&text).lines().skip(1).filter_map(entry).collect::<Vec<Entry>>();
+    let in_text =
+        |text: Vec<u8>| String::from_utf8_lossy(&text).lines().skip(1).filter_map(entry).collect::<Vec<Entry>>();
     (0..count).flat_map(|index| in_text(case(14, index).text)).collect()
 }
 
