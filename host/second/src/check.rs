@@ -33,7 +33,7 @@ pub struct Difference {
     pub words: String,
 }
 
-fn difference<T>(part: Part, words: String) -> Result<T, Difference> {
+pub fn difference<T>(part: Part, words: String) -> Result<T, Difference> {
     Err(Difference { part, words })
 }
 
@@ -54,6 +54,8 @@ pub struct Report {
     pub differences: Vec<i64>,
     /// d, H and I of each ground step whose free mark shows, and whether it was taken.
     pub shown: Vec<((i32, i32, i32), bool)>,
+    /// Positions of the segments with trains whose ground mark is free.
+    pub free_grounds: Vec<usize>,
 }
 
 /// The one answer to a refused text or to too few cells.
@@ -203,6 +205,9 @@ fn count_marks(
         report.ground_required += (ground.mark == Mark::Required) as u32;
         report.ground_free_shown += ground.shown() as u32;
         report.ground_free_hidden += ground.hidden() as u32;
+        if ground.mark == Mark::Free {
+            report.free_grounds.push(position);
+        }
         if ground.shown() {
             report.shown.push(((segment.distance, segment.mean_height, segment.soft_ground), taken));
         }

@@ -21,6 +21,9 @@ pub struct Answer {
     pub night: PeriodAnswer,
 }
 
+/// Cells that are enough for every study.
+pub const MOST_CELLS: usize = 192;
+
 pub type Levels = unsafe extern "C" fn(*const u8, usize, *mut i32, usize) -> Answer;
 
 impl PeriodAnswer {
@@ -102,6 +105,37 @@ impl EntitlementAnswer {
     }
 
     pub fn periods(&self) -> [EntitlementPeriod; 2] {
+        [self.day, self.night]
+    }
+}
+
+/// The answer for two drawings.
+#[repr(C)]
+#[derive(Clone, Copy, PartialEq, Eq, Debug, Default)]
+pub struct MergedAnswer {
+    pub refusal: u32,
+    pub text: u32,
+    pub line: u32,
+    pub day: PeriodAnswer,
+    pub night: PeriodAnswer,
+}
+
+pub type MergedLevels = unsafe extern "C" fn(*const u8, usize, *const u8, usize, *mut i32, usize) -> MergedAnswer;
+
+impl MergedAnswer {
+    /// `text` is the refused text's number, 1 or 2; else 0.
+    pub fn of(text: u32, answer: Answer) -> MergedAnswer {
+        let Answer { refusal, line, day, night } = answer;
+        MergedAnswer { refusal, text, line, day, night }
+    }
+
+    /// All but the text's number: the answer as it would be for one text.
+    pub fn whole(&self) -> Answer {
+        let MergedAnswer { refusal, line, day, night, .. } = *self;
+        Answer { refusal, line, day, night }
+    }
+
+    pub fn periods(&self) -> [PeriodAnswer; 2] {
         [self.day, self.night]
     }
 }

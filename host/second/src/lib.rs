@@ -11,6 +11,7 @@ pub mod guarded;
 pub mod interface;
 pub mod levels;
 pub mod logarithm;
+pub mod merging;
 pub mod mock;
 pub mod reader;
 pub mod requests;

@@ -3,13 +3,13 @@
 
 use crate::check::CELLS_SHORT;
 use crate::entitlement::{in_period, judged, Level, Request, ALTERED_AFTER, ALTERED_BEFORE, OTHER_AFTER, OTHER_BEFORE};
-use crate::interface::{Answer, Combined, EntitlementAnswer, EntitlementPeriod, PeriodAnswer};
+use crate::interface::{
+    Answer, Combined, EntitlementAnswer, EntitlementPeriod, MergedAnswer, PeriodAnswer, MOST_CELLS,
+};
 use crate::levels::{total_of, Mark, Period, Rounded, Workings, PERIODS, SILENT_CELL};
+use crate::merging::read_both;
 use crate::reader::{read, Refusal};
 use crate::study::{Segment, Study};
-
-/// Cells that are enough for every study.
-const MOST_CELLS: usize = 192;
 
 fn taken(rounded: &Rounded, if_free: bool) -> bool {
     match rounded.mark {
@@ -72,6 +72,11 @@ fn answer_to(outcome: Result<Study, Refusal>, cells: &mut [i32], turned: bool) -
 
 pub fn levels(text: &[u8], cells: &mut [i32], turned: bool) -> Answer {
     answer_to(read(text), cells, turned)
+}
+
+pub fn merged_levels(texts: [&[u8]; 2], cells: &mut [i32], turned: bool) -> MergedAnswer {
+    let (text, outcome) = read_both(texts);
+    MergedAnswer::of(text, answer_to(outcome, cells, turned))
 }
 
 fn combined(one: Level, other: Level, turned: bool) -> Combined {

@@ -1,6 +1,6 @@
 //! The reading of a study's text (01, "The text"): the study, or number and line of the first fault.
 
-use crate::study::{Entry, Segment, Study};
+use crate::study::{Entry, Segment, Study, ENTRY_LIMIT, SEGMENT_LIMIT};
 
 pub const TEXT_LIMIT: usize = 16_384;
 const FORM: u32 = 12;
@@ -70,9 +70,10 @@ impl<'a> Lines<'a> {
             return Err(self.refused(FORM));
         }
         let counts = &list[1..];
-        let each = counts.iter().all(|count| (0..=96).contains(count));
+        let each = counts.iter().all(|count| (0..=ENTRY_LIMIT as i32).contains(count));
         let total: i64 = counts.iter().map(|&count| count as i64).sum();
-        if !(1..=24).contains(&list[0]) || !each || !(1..=96).contains(&total) {
+        let segments = (1..=SEGMENT_LIMIT as i32).contains(&list[0]);
+        if !segments || !each || !(1..=ENTRY_LIMIT as i64).contains(&total) {
             return Err(self.refused(CONTENTS));
         }
         Ok(counts.to_vec())

@@ -3,6 +3,10 @@
 
 use crate::steps;
 
+/// Most segments and train entries of a study.
+pub const SEGMENT_LIMIT: usize = 24;
+pub const ENTRY_LIMIT: usize = 96;
+
 /// Centimetres, degrees, tenths and decimetres as entered.
 #[derive(Clone, Copy, PartialEq, Eq, Debug)]
 pub struct Segment {

@@ -7,7 +7,7 @@ use std::time::Instant;
 use second::entitlement::{check, explains};
 use second::generate::Random;
 use second::guarded::Guarded;
-use second::interface::{EntitlementAnswer, Levels};
+use second::interface::{EntitlementAnswer, Levels, MOST_CELLS};
 use second::requests::{case, Case};
 use second::tally::Tally;
 
@@ -50,7 +50,6 @@ pub const PRODUCT: Option<Entitlement> = None;
 
 /// One case for so many texts: it has four of them, so both runs take about as long.
 const TEXTS_TO_A_CASE: u64 = 4;
-const MOST_CELLS: usize = 192;
 
 /// Where the texts lie during a call.
 struct Bench {
