@@ -58,6 +58,46 @@ pub struct Report {
     pub free_grounds: Vec<usize>,
 }
 
+impl Report {
+    /// Adds the marks of another answer, and keeps the lowest and the highest difference of all.
+    pub fn gather(&mut self, other: &Report) {
+        self.ground_required += other.ground_required;
+        self.ground_free_shown += other.ground_free_shown;
+        self.ground_free_hidden += other.ground_free_hidden;
+        self.total_required += other.total_required;
+        self.total_free += other.total_free;
+        self.taken += other.taken;
+        self.not_taken += other.not_taken;
+        let (lowest, highest) = self.extremes();
+        let list = other.differences.iter().copied();
+        self.differences = vec![list.clone().fold(lowest, i64::min), list.fold(highest, i64::max)];
+    }
+
+    /// The lowest difference, or 0 where none is below it, and the highest likewise.
+    fn extremes(&self) -> (i64, i64) {
+        let list = self.differences.iter().copied();
+        (list.clone().fold(0, i64::min), list.fold(0, i64::max))
+    }
+
+    pub fn marks(&self) -> String {
+        format!(
+            "marks required {} ground {} total, free {} ground shown {} ground hidden {} total, taken {} not taken {}",
+            self.ground_required,
+            self.total_required,
+            self.ground_free_shown,
+            self.ground_free_hidden,
+            self.total_free,
+            self.taken,
+            self.not_taken
+        )
+    }
+
+    pub fn largest_difference(&self) -> String {
+        let (lowest, highest) = self.extremes();
+        format!("largest difference {:+.6} {:+.6} dB", highest as f64 / 1e6, lowest as f64 / 1e6)
+    }
+}
+
 /// The one answer to a refused text or to too few cells.
 fn check_refusal(expected: Refusal, before: &[i32], after: &[i32], answer: &Answer) -> Result<Report, Difference> {
     if *answer != Answer::refused(expected) {

@@ -142,7 +142,7 @@ fn without_end(random: &mut Random, text: &[u8]) -> Vec<u8> {
 }
 
 /// A text of exactly the limit, or a byte more or less, good in its first part.
-fn at_length_limit(random: &mut Random, text: &[u8]) -> Vec<u8> {
+pub fn at_length_limit(random: &mut Random, text: &[u8]) -> Vec<u8> {
     let length = TEXT_LIMIT + random.below(3) - 1;
     let mut long = if random.chance(70) { text.to_vec() } else { Vec::new() };
     let filler = random.pick(b"\n0 9x");

@@ -86,6 +86,10 @@ impl Draft {
         text
     }
 
+    pub fn entry_count(&self) -> usize {
+        self.segments.iter().map(|(_, entries)| entries.len()).sum()
+    }
+
     /// The study it stands for; every figure must be in range.
     fn study(&self) -> Study {
         let mut study = Study::default();
@@ -153,6 +157,9 @@ pub const TRACK: usize = 10;
 const BALLAST: usize = 11;
 const OPPOSITE: usize = 13;
 const WALL: usize = 14;
+
+/// In an entry; the night trains' place is the next.
+pub const DAY_TRAINS: usize = 3;
 
 /// On either side of the first loss and of a metre's half, and at the ends.
 const WALLS: [i32; 10] = [1, 14, 15, 24, 25, 34, 35, 94, 95, 100];
@@ -500,14 +507,20 @@ fn entry_counts(random: &mut Random) -> Vec<usize> {
     counts
 }
 
-fn good_draft(random: &mut Random) -> Draft {
+/// Good segments with so many good entries each.
+pub fn draft_of(random: &mut Random, counts: &[usize]) -> Draft {
     let mut draft = Draft::default();
-    for count in entry_counts(random) {
+    for &count in counts {
         let segment = good_segment(random);
         let entries = (0..count).map(|_| good_entry(random)).collect();
         draft.segments.push((segment, entries));
     }
     draft
+}
+
+fn good_draft(random: &mut Random) -> Draft {
+    let counts = entry_counts(random);
+    draft_of(random, &counts)
 }
 
 /// One segment and like entries, every step rounded the same way: the total is far from the bare level.
@@ -560,7 +573,7 @@ fn aim_at_total_tie(random: &mut Random, draft: &mut Draft) {
     let rest = 10f64.powf(total_about(others).expect("another entry") / 1e7);
     let mut entries = draft.segments.iter_mut().flat_map(|(_, entries)| entries.iter_mut());
     let entry = entries.nth(chosen).expect("the chosen entry");
-    let field = 3 + period as usize;
+    let field = DAY_TRAINS + period as usize;
     let without = levels[chosen].expect("a level") - nearest_tenth(steps::trains(entry[field]));
     let bound = random.pick(&[0.0, 1000.0, -1000.0, 1500.0, -1500.0, 2000.0, -2000.0]);
     let mut best = f64::INFINITY;
@@ -639,15 +652,20 @@ fn spoil(random: &mut Random, draft: &mut Draft) {
     }
 }
 
+/// Half of the time a total is brought near a tie or near its verdict's edge.
+pub fn aim(random: &mut Random, draft: &mut Draft) {
+    match random.below(6) {
+        0 => aim_at_verdict(random, draft),
+        1 | 2 => aim_at_total_tie(random, draft),
+        _ => {}
+    }
+}
+
 /// A good study of any of the kinds above.
 pub fn any_draft(random: &mut Random) -> Draft {
     let one_sided = random.chance(8);
     let mut draft = if one_sided { one_sided_draft(random) } else { good_draft(random) };
-    match random.below(6) {
-        0 => aim_at_verdict(random, &mut draft),
-        1 | 2 => aim_at_total_tie(random, &mut draft),
-        _ => {}
-    }
+    aim(random, &mut draft);
     draft
 }
 
@@ -680,8 +698,7 @@ pub fn bad_text(random: &mut Random, draft: Draft) -> Vec<u8> {
 pub fn case(seed: u64, index: u64) -> Case {
     let random = &mut Random::new(seed, index);
     let draft = any_draft(random);
-    let entries = draft.segments.iter().map(|(_, entries)| entries.len()).sum();
-    let cells = cell_count(random, entries);
+    let cells = cell_count(random, draft.entry_count());
     let (text, kind) = match random.below(100) {
         0..=15 => spoilt(random, draft),
         16..=35 => damaged(random, draft),

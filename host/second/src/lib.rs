@@ -4,6 +4,7 @@
 pub mod big;
 pub mod check;
 pub mod damage;
+pub mod drawings;
 pub mod energy;
 pub mod entitlement;
 pub mod generate;
@@ -11,6 +12,7 @@ pub mod guarded;
 pub mod interface;
 pub mod levels;
 pub mod logarithm;
+pub mod merged_tally;
 pub mod merging;
 pub mod mock;
 pub mod reader;

@@ -3,7 +3,7 @@
 use crate::study::{Entry, Segment, Study, ENTRY_LIMIT, SEGMENT_LIMIT};
 
 pub const TEXT_LIMIT: usize = 16_384;
-const FORM: u32 = 12;
+pub const FORM: u32 = 12;
 const CONTENTS: u32 = 13;
 
 #[derive(Clone, Copy, PartialEq, Eq, Debug)]

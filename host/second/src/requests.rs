@@ -6,7 +6,7 @@ use std::sync::OnceLock;
 
 use crate::entitlement::{Level, Levels, Lines, Request, ALTERED_AFTER, ALTERED_BEFORE, OTHER_AFTER, OTHER_BEFORE};
 use crate::generate::{
-    any_draft, bad_text, good_entry, good_segment, Draft, EntryNumbers, Random, SegmentNumbers, TRACK,
+    any_draft, bad_text, good_entry, good_segment, Draft, EntryNumbers, Random, SegmentNumbers, DAY_TRAINS, TRACK,
 };
 use crate::levels::{period_part, segment_part, total_of, Period, SegmentPart, PERIODS};
 use crate::steps::{self, nearest_tenth};
@@ -36,7 +36,6 @@ const SPLITS: [(i64, i64); 3] = [(87, 6), (22, 20), (123, 2)];
 const SPREAD: i64 = 260;
 
 const READING_LIMIT: i64 = 150;
-const DAY_TRAINS: usize = 3;
 
 struct Tables {
     /// By how much one level lies above another, from -SPREAD on: how far their combination lies above the other.

@@ -1,9 +1,13 @@
-//! Two drawings as one study (02, L5): worked cases, whose figures were worked out apart from this implementation.
+//! Two drawings as one study (02, L5): worked cases, whose figures were worked out apart from this implementation;
+//! answers that are a little wrong; and how often the generator comes to each edge.
 
+use second::check::Report;
+use second::drawings::case;
 use second::interface::{MergedAnswer, PeriodAnswer, MOST_CELLS};
 use second::levels::{Period, Workings};
-use second::merging::{check, merge, typed_whole};
-use second::mock::merged_levels;
+use second::merged_tally::Tally;
+use second::merging::{check, merge, read_both, typed_whole};
+use second::mock::{levels, merged_levels};
 use second::reader::read;
 use second::study::Study;
 
@@ -160,4 +164,123 @@ fn typed_whole_it_is_the_same_study() {
     let lines = format!("{OPEN}\n{}\n{WALLED}\n{}\n{}\n{WALLED}\n{OPEN}\n{}\n", LINES[0], LINES[1], LINES[2], LINES[3]);
     assert_eq!(String::from_utf8(whole.clone()).expect("ASCII"), format!("4 1 2 0 1\n{lines}"));
     assert_eq!(read(&whole), Ok(merge(&study(&first), &study(&second)).expect("a small study")));
+}
+
+fn free(report: &Report) -> bool {
+    report.ground_free_shown + report.ground_free_hidden + report.total_free > 0
+}
+
+#[test]
+fn pairs_typed_whole_are_the_same_studies() {
+    let mut merged = 0;
+    for index in 0..1000 {
+        let case = case(31, index);
+        if let (0, Ok(study)) = read_both(case.texts()) {
+            assert_eq!(read(&typed_whole(case.texts())), Ok(study));
+            merged += 1;
+        }
+    }
+    assert!(merged > 300, "{merged}");
+}
+
+#[test]
+fn both_choices_of_free_marks_are_allowed() {
+    let mut apart = 0;
+    for index in 0..2000 {
+        let case = case(32, index);
+        let answers = [false, true].map(|turned| {
+            let (before, after, answer) = answered(case.texts(), case.cells, turned);
+            check(case.texts(), &before, &after, &answer).expect("an allowed answer");
+            answer
+        });
+        apart += (answers[0] != answers[1]) as u32;
+    }
+    assert!(apart > 200, "{apart}");
+}
+
+/// Answers that differ from a given one in one place.
+fn slips(answer: MergedAnswer) -> Vec<MergedAnswer> {
+    let mut list = Vec::new();
+    for step in [1u32, u32::MAX] {
+        list.push(MergedAnswer { refusal: answer.refusal.wrapping_add(step), ..answer });
+        list.push(MergedAnswer { text: answer.text.wrapping_add(step), ..answer });
+        list.push(MergedAnswer { line: answer.line.wrapping_add(step), ..answer });
+        for day in [true, false] {
+            let mut slip = |change: &dyn Fn(&mut PeriodAnswer)| {
+                let mut wrong = answer;
+                change(if day { &mut wrong.day } else { &mut wrong.night });
+                list.push(wrong);
+            };
+            slip(&|period| period.level = period.level.wrapping_add(step as i32));
+            slip(&|period| period.close = period.close.wrapping_add(step));
+            slip(&|period| period.silent ^= 1);
+            slip(&|period| period.met ^= 1);
+            slip(&|period| period.met += 2);
+        }
+    }
+    list
+}
+
+#[test]
+fn an_answer_a_little_wrong_is_stopped() {
+    let mut tried = 0;
+    for index in 0..400 {
+        let case = case(33, index);
+        let (before, after, answer) = answered(case.texts(), case.cells, false);
+        let report = check(case.texts(), &before, &after, &answer).expect("an allowed answer");
+        if free(&report) {
+            continue;
+        }
+        for wrong in slips(answer) {
+            assert!(check(case.texts(), &before, &after, &wrong).is_err(), "{wrong:?}");
+            tried += 1;
+        }
+        for place in (0..after.len()).step_by(7).chain(after.len().checked_sub(1)) {
+            let mut cells = after.clone();
+            cells[place] += 1;
+            assert!(check(case.texts(), &before, &cells, &answer).is_err(), "cell {place}");
+            tried += 1;
+        }
+    }
+    assert!(tried > 5000, "{tried}");
+}
+
+#[test]
+fn a_case_is_the_same_each_time() {
+    for index in [0, 7, 4000] {
+        let (one, again) = (case(34, index), case(34, index));
+        assert!(one.texts == again.texts && one.cells == again.cells && one.kind == again.kind);
+        assert!(one.texts != case(34, index + 1).texts && one.texts != case(35, index).texts);
+    }
+}
+
+/// The pairs of the gate's run, `host/differential.sh 1 20000`.
+#[test]
+fn every_edge_comes_up() {
+    let mut tally = Tally::default();
+    for index in 0..5000 {
+        let case = case(1, index);
+        let (before, after, answer) = answered(case.texts(), case.cells, false);
+        let report = check(case.texts(), &before, &after, &answer).expect("an allowed answer");
+        tally.add(&case, &answer, &report);
+        if answer.refusal == 0 {
+            let reported = |text| levels(text, &mut [0; MOST_CELLS], false).periods().map(|period| period.figure());
+            tally.add_parts(&answer, case.texts().map(reported));
+        }
+    }
+    assert!(tally.kinds.len() == 4 && tally.kinds.values().all(|&count| count > 300));
+    assert!(tally.answered > 1500);
+    for (name, count) in &tally.edges {
+        assert!(*count > 20, "{name}: {count}");
+    }
+    // Every refusal of a text in either place, and those of both together.
+    let refused = |text, number| tally.refused.get(&(text, number)).copied().unwrap_or(0);
+    for number in 1..=13 {
+        assert!(refused(1, number) > 5 && refused(2, number) > 5, "{number}");
+    }
+    assert!([21, 22, 24].iter().all(|&number| refused(0, number) > 200));
+    assert_eq!(tally.refused.len(), 2 * 13 + 3);
+    assert!(tally.all.total_required > 50 && tally.all.total_free > 50);
+    assert!(tally.all.taken > 100 && tally.all.not_taken > 100);
+    assert!(tally.combined.iter().all(|&count| count > 300), "{:?}", tally.combined);
 }
