@@ -27,7 +27,7 @@ fn link_plain(name: &str, flag: &str) {
 
 const ARCHIVES: [&str; 2] = ["RAILNOISE_ARCHIVE", "RAILNOISE_REQUESTS_ARCHIVE"];
 
-/// Links the product's archives, each of which shows its own function alone; false when none is named.
+/// Links the product's archives, each of which shows its own functions alone; false when none is named.
 fn link_product() -> bool {
     let named = ARCHIVES.map(env::var_os);
     if named.iter().all(Option::is_none) {

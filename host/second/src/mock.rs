@@ -162,3 +162,21 @@ pub unsafe extern "C" fn railnoise_entitlement(
     ];
     entitlement(&request, false)
 }
+
+/// The third function, likewise.
+///
+/// # Safety
+/// As in include/railnoise_requests.h: each pointer is null with length 0, or good for its length.
+#[cfg(feature = "mock")]
+#[no_mangle]
+pub unsafe extern "C" fn railnoise_merged_levels(
+    first: *const u8,
+    first_length: usize,
+    second: *const u8,
+    second_length: usize,
+    cells: *mut i32,
+    cell_count: usize,
+) -> MergedAnswer {
+    let cells = if cells.is_null() { &mut [] } else { std::slice::from_raw_parts_mut(cells, cell_count) };
+    merged_levels([bytes(first, first_length), bytes(second, second_length)], cells, false)
+}
