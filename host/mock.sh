@@ -12,7 +12,7 @@ mkdir -p "$build"
 
 # archive NAME FUNCTION...: one object with all that the functions need. Its section groups are dissolved: a linker
 # would drop one that it has seen before. The bitcode beside Rust's own code is left out: ar and nm would hand
-# it to a plugin.
+# it to a plugin. So are names that nothing refers to any more: not every C library has them.
 archive() {
     name=$1
     shift
@@ -20,7 +20,7 @@ archive() {
     ld -r --force-group-allocation --gc-sections $(printf -- '-u %s ' "$@") \
         "$here/second/target/release/libsecond.a" -o "$build/mock.o"
     # shellcheck disable=SC2046 # several flags
-    objcopy --strip-debug -R .llvmbc -R .llvmcmd $(printf -- '--keep-global-symbol=%s ' "$@") "$build/mock.o"
+    objcopy --strip-unneeded -R .llvmbc -R .llvmcmd $(printf -- '--keep-global-symbol=%s ' "$@") "$build/mock.o"
     rm -f "$build/$name"
     ar rcs "$build/$name" "$build/mock.o"
     rm "$build/mock.o"
