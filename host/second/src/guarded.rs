@@ -56,3 +56,29 @@ impl Guarded {
         }
     }
 }
+
+/// Copies of some texts, each flush with a closed page of its own room, by where they start. With `once` equal texts
+/// are one and the same; an empty text is null half of the time.
+pub fn lend<const N: usize>(rooms: &mut [Guarded; N], texts: [&[u8]; N], at_end: bool, once: bool) -> [*const u8; N] {
+    let mut starts = [std::ptr::null(); N];
+    for place in 0..N {
+        let text = texts[place];
+        let same = (0..place).find(|&earlier| once && texts[earlier] == text);
+        starts[place] = match same {
+            Some(earlier) => starts[earlier],
+            None if text.is_empty() && at_end => std::ptr::null(),
+            None => rooms[place].bytes(text, at_end).as_ptr(),
+        };
+    }
+    starts
+}
+
+/// Stops the program where a text was written to.
+///
+/// # Safety
+/// Each start is null, or good for its text's length.
+pub unsafe fn assert_untouched<const N: usize>(starts: [*const u8; N], texts: [&[u8]; N]) {
+    for (start, text) in starts.into_iter().zip(texts).filter(|(start, _)| !start.is_null()) {
+        assert!(std::slice::from_raw_parts(start, text.len()) == text, "a text was written to");
+    }
+}

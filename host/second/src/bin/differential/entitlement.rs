@@ -6,12 +6,12 @@ use std::time::Instant;
 
 use second::entitlement::{check, explains};
 use second::generate::Random;
-use second::guarded::Guarded;
+use second::guarded::{assert_untouched, lend, Guarded};
 use second::interface::{EntitlementAnswer, Levels, MOST_CELLS};
 use second::requests::{case, Case};
 use second::tally::Tally;
 
-use crate::{note_current, Options};
+use crate::{note_current, Options, Run};
 
 #[cfg(product)]
 extern "C" {
@@ -61,23 +61,13 @@ struct Bench {
 impl Bench {
     /// The answer; the texts must be untouched. With `once` equal texts are one and the same text.
     fn call(&mut self, case: &Case, at_end: bool, once: bool) -> EntitlementAnswer {
-        let mut starts = [std::ptr::null(); 4];
-        for set in 0..4 {
-            let text = &case.texts[set];
-            let same = (0..set).find(|&earlier| once && case.texts[earlier] == *text);
-            starts[set] = match same {
-                Some(earlier) => starts[earlier],
-                // An empty text is handed over as null half of the time.
-                None if text.is_empty() && at_end => std::ptr::null(),
-                None => self.texts[set].bytes(text, at_end).as_ptr(),
-            };
+        let texts = case.texts.each_ref().map(Vec::as_slice);
+        let starts = lend(&mut self.texts, texts, at_end, once);
+        unsafe {
+            let answer = (self.entitlement)(starts, texts.map(<[u8]>::len), case.empty);
+            assert_untouched(starts, texts);
+            answer
         }
-        let answer = unsafe { (self.entitlement)(starts, case.texts.each_ref().map(Vec::len), case.empty) };
-        for (start, text) in starts.into_iter().zip(&case.texts).filter(|(start, _)| !start.is_null()) {
-            let untouched = unsafe { std::slice::from_raw_parts(start, text.len()) };
-            assert!(untouched == text, "a text was written to");
-        }
-        answer
     }
 
     /// Day and night level of each set, as railnoise_levels gives them.
@@ -130,16 +120,17 @@ fn try_case(options: &Options, bench: &mut Bench, index: u64, tally: &mut Tally)
     }
 }
 
-/// A share of the run's count in cases, or the one that is asked for; gives the summary's line.
-pub fn run(options: &Options, entitlement: Entitlement, levels: Levels) -> String {
+/// A share of the run's count in cases, or the one that is asked for; gives the summary's line, none where another run
+/// is asked for.
+pub fn run(options: &Options, entitlement: Entitlement, levels: Levels) -> Option<String> {
+    let range = options.range(Run::Requests, options.count / TEXTS_TO_A_CASE)?;
     let texts = [(); 4].map(|()| Guarded::new(1 << 17));
     let mut bench = Bench { entitlement, levels, texts };
     let mut tally = Tally::default();
     let start = Instant::now();
-    let range = options.case.map_or(0..options.count / TEXTS_TO_A_CASE, |index| index..index + 1);
     for index in range {
-        note_current(true, index);
+        note_current(Run::Requests, index);
         try_case(options, &mut bench, index, &mut tally);
     }
-    tally.line(options.seed, start.elapsed().as_secs_f64())
+    Some(tally.line(options.seed, start.elapsed().as_secs_f64()))
 }

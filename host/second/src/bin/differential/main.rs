@@ -1,20 +1,23 @@
 //! Holds railnoise_levels, or the plain C program, against the second implementation on many texts; then
-//! railnoise_entitlement on many requests of four texts.
+//! railnoise_entitlement on many requests of four texts, and railnoise_merged_levels on many pairs.
 //!
-//! differential [--of product|plain|digits] [--only INDEX] [--case INDEX] [--dump] [--corpus DIRECTORY] SEED COUNT
+//! differential [--of product|plain|digits] [--only INDEX | --case INDEX | --pair INDEX] [--dump]
+//!     [--corpus DIRECTORY] SEED COUNT
 //!
 //! One summary line for each function; exit 1 at the first difference, with its text or texts. --only tries
-//! one text alone, --case one request. The plain program is not expected to agree: its misreadings are counted,
-//! and the exit is 0. It has no requests. --dump writes texts and answers for crosscheck.py, --corpus only
-//! writes the texts, as files for the fuzzer.
+//! one text alone, --case one request of four texts, --pair one pair. The plain program is not expected to agree: its
+//! misreadings are counted, and the exit is 0. It has no requests. --dump writes texts and answers for crosscheck.py,
+//! --corpus only writes the texts, as files for the fuzzer.
 
 mod entitlement;
+mod merged;
 
 use std::collections::{BTreeMap, HashMap};
 use std::io::Write;
+use std::ops::Range;
 use std::path::{Path, PathBuf};
 use std::process::exit;
-use std::sync::atomic::{AtomicBool, AtomicU64, Ordering};
+use std::sync::atomic::{AtomicU64, AtomicU8, Ordering};
 use std::time::Instant;
 
 use second::check::{check, Difference, Part, Report};
@@ -40,12 +43,22 @@ const PRODUCT: Option<Levels> = Some(railnoise_levels);
 #[cfg(not(product))]
 const PRODUCT: Option<Levels> = None;
 
-/// The text or request under trial, for the message of a crash.
-static CURRENT: AtomicU64 = AtomicU64::new(0);
-static IS_REQUEST: AtomicBool = AtomicBool::new(false);
+/// The runs, in their order.
+#[derive(Clone, Copy, PartialEq, Eq)]
+enum Run {
+    Texts,
+    Requests,
+    Pairs,
+}
 
-fn note_current(is_request: bool, index: u64) {
-    IS_REQUEST.store(is_request, Ordering::Relaxed);
+/// The run, and the number of what is under trial in it, for the message of a crash.
+static RUN: AtomicU8 = AtomicU8::new(0);
+static CURRENT: AtomicU64 = AtomicU64::new(0);
+
+const AT_CRASH: [&str; 3] = ["text ", "entitlement case ", "pair "];
+
+fn note_current(run: Run, index: u64) {
+    RUN.store(run as u8, Ordering::Relaxed);
     CURRENT.store(index, Ordering::Relaxed);
 }
 
@@ -57,14 +70,11 @@ extern "C" fn crashed(_: i32) {
         *digit = b'0' + (rest % 10) as u8;
         rest /= 10;
     }
-    let message: &[u8] = match IS_REQUEST.load(Ordering::Relaxed) {
-        false => b"differential: crash at text ",
-        true => b"differential: crash at entitlement case ",
-    };
+    let what = AT_CRASH[RUN.load(Ordering::Relaxed) as usize].as_bytes();
     unsafe {
-        write(2, message.as_ptr(), message.len());
-        write(2, digits.as_ptr(), digits.len());
-        write(2, b"\n".as_ptr(), 1);
+        for words in [b"differential: crash at ", what, &digits, b"\n"] {
+            write(2, words.as_ptr(), words.len());
+        }
         _exit(1)
     }
 }
@@ -72,24 +82,34 @@ extern "C" fn crashed(_: i32) {
 struct Options {
     /// The plain program's name and function, if one of its forms is tried and not the product.
     plain: Option<(&'static str, Levels)>,
-    only: Option<u64>,
-    case: Option<u64>,
+    /// One text, request or pair alone.
+    only: Option<(Run, u64)>,
     dump: bool,
     corpus: Option<PathBuf>,
     seed: u64,
     count: u64,
 }
 
+impl Options {
+    /// What a run tries, out of so many: all, the one that is asked for, or nothing where another run is.
+    fn range(&self, run: Run, count: u64) -> Option<Range<u64>> {
+        match self.only {
+            None => Some(0..count),
+            Some((asked, index)) => (asked == run).then_some(index..index + 1),
+        }
+    }
+}
+
 fn usage() -> ! {
     eprintln!(
-        "usage: differential [--of product|plain|digits] [--only INDEX] [--case INDEX] [--dump] \
+        "usage: differential [--of product|plain|digits] [--only INDEX | --case INDEX | --pair INDEX] [--dump] \
          [--corpus DIRECTORY] SEED COUNT"
     );
     exit(2)
 }
 
 fn options() -> Options {
-    let mut options = Options { plain: None, only: None, case: None, dump: false, corpus: None, seed: 0, count: 0 };
+    let mut options = Options { plain: None, only: None, dump: false, corpus: None, seed: 0, count: 0 };
     let mut numbers = Vec::new();
     let index = |word: Option<String>| word.and_then(|word| word.parse().ok()).unwrap_or_else(|| usage());
     let mut words = std::env::args().skip(1);
@@ -101,8 +121,9 @@ fn options() -> Options {
                 Some("product") => {}
                 _ => usage(),
             },
-            "--only" => options.only = Some(index(words.next())),
-            "--case" => options.case = Some(index(words.next())),
+            "--only" => options.only = Some((Run::Texts, index(words.next()))),
+            "--case" => options.only = Some((Run::Requests, index(words.next()))),
+            "--pair" => options.only = Some((Run::Pairs, index(words.next()))),
             "--dump" => options.dump = true,
             "--corpus" => options.corpus = Some(words.next().unwrap_or_else(|| usage()).into()),
             _ => numbers.push(word.parse::<u64>().unwrap_or_else(|_| usage())),
@@ -121,6 +142,10 @@ struct Bench {
 }
 
 impl Bench {
+    fn of(levels: Levels) -> Bench {
+        Bench { levels, text: Guarded::new(1 << 17), cells: Guarded::new(1 << 14) }
+    }
+
     /// The answer and the cells after it; the text must be untouched.
     fn call(&mut self, text: &[u8], before: &[i32], at_end: bool) -> (Answer, Vec<i32>) {
         let lent = self.text.bytes(text, at_end);
@@ -140,9 +165,7 @@ struct Summary {
     accepted: u64,
     refused: BTreeMap<u32, u64>,
     kinds: BTreeMap<&'static str, u64>,
-    marks: Report,
-    lowest: i64,
-    highest: i64,
+    all: Report,
     unsteady: u64,
     steady: HashMap<(i32, i32, i32), bool>,
     misread: BTreeMap<String, u64>,
@@ -156,18 +179,7 @@ impl Summary {
             return;
         }
         self.accepted += 1;
-        let marks = &mut self.marks;
-        marks.ground_required += report.ground_required;
-        marks.ground_free_shown += report.ground_free_shown;
-        marks.ground_free_hidden += report.ground_free_hidden;
-        marks.total_required += report.total_required;
-        marks.total_free += report.total_free;
-        marks.taken += report.taken;
-        marks.not_taken += report.not_taken;
-        for away in report.differences {
-            self.lowest = self.lowest.min(away);
-            self.highest = self.highest.max(away);
-        }
+        self.all.gather(&report);
         for (figures, taken) in report.shown {
             self.unsteady += (*self.steady.entry(figures).or_insert(taken) != taken) as u64;
         }
@@ -176,26 +188,16 @@ impl Summary {
     fn line(&self, options: &Options, seconds: f64) -> String {
         let refused: Vec<String> = self.refused.iter().map(|(number, count)| format!("{number}:{count}")).collect();
         let kinds: Vec<String> = self.kinds.iter().map(|(kind, count)| format!("{kind} {count}")).collect();
-        let marks = &self.marks;
         format!(
-            "differential: seed {} texts {} ({}); accepted {}; refused {}; marks required {} ground {} total, \
-             free {} ground shown {} ground hidden {} total, taken {} not taken {} unsteady {}; \
-             largest difference {:+.6} {:+.6} dB; {:.1} s",
+            "differential: seed {} texts {} ({}); accepted {}; refused {}; {} unsteady {}; {}; {:.1} s",
             options.seed,
             options.count,
             kinds.join(", "),
             self.accepted,
             refused.join(" "),
-            marks.ground_required,
-            marks.total_required,
-            marks.ground_free_shown,
-            marks.ground_free_hidden,
-            marks.total_free,
-            marks.taken,
-            marks.not_taken,
+            self.all.marks(),
             self.unsteady,
-            self.highest as f64 / 1e6,
-            self.lowest as f64 / 1e6,
+            self.all.largest_difference(),
             seconds,
         )
     }
@@ -279,14 +281,16 @@ fn write_corpus(options: &Options, directory: &Path) -> std::io::Result<()> {
         .try_for_each(|index| std::fs::write(directory.join(format!("text-{index}")), case(options.seed, index).text))
 }
 
-/// All texts, or the one that is asked for; gives the summary's lines.
+/// All texts, or the one that is asked for; gives the summary's lines, none where another run is asked for.
 fn run(options: &Options, levels: Levels) -> Vec<String> {
-    let mut bench = Bench { levels, text: Guarded::new(1 << 17), cells: Guarded::new(1 << 14) };
+    let Some(range) = options.range(Run::Texts, options.count) else {
+        return Vec::new();
+    };
+    let mut bench = Bench::of(levels);
     let mut summary = Summary::default();
     let start = Instant::now();
-    let range = options.only.map_or(0..options.count, |index| index..index + 1);
     for index in range {
-        note_current(false, index);
+        note_current(Run::Texts, index);
         try_text(options, &mut bench, index, &mut summary);
     }
     let mut lines = vec![summary.line(options, start.elapsed().as_secs_f64())];
@@ -299,28 +303,28 @@ fn main() {
     if let Some(directory) = &options.corpus {
         return write_corpus(&options, directory).expect("corpus written");
     }
-    let (levels, entitlement) = match (options.plain, PRODUCT) {
-        (Some((_, levels)), _) => (levels, None),
-        (None, Some(levels)) => (levels, entitlement::PRODUCT),
-        (None, None) => {
-            eprintln!(
-                "built without archives: set RAILNOISE_ARCHIVE and RAILNOISE_REQUESTS_ARCHIVE, or build with \
-                 --features mock"
-            );
-            exit(2)
-        }
+    let Some(levels) = options.plain.map(|(_, levels)| levels).or(PRODUCT) else {
+        eprintln!(
+            "built without archives: set RAILNOISE_ARCHIVE and RAILNOISE_REQUESTS_ARCHIVE, or build with \
+             --features mock"
+        );
+        exit(2)
     };
     for number in [4, 6, 7, 8, 11] {
         unsafe { signal(number, crashed) };
     }
-    if options.case.is_none() {
-        let lines = run(&options, levels);
-        if options.dump {
-            return;
-        }
-        lines.iter().for_each(|line| println!("{line}"));
+    let lines = run(&options, levels);
+    if options.dump {
+        return;
     }
-    if let (Some(entitlement), None) = (entitlement, options.only) {
-        println!("{}", entitlement::run(&options, entitlement, levels));
+    lines.iter().for_each(|line| println!("{line}"));
+    if options.plain.is_some() {
+        return;
+    }
+    if let Some(line) = entitlement::PRODUCT.and_then(|entitlement| entitlement::run(&options, entitlement, levels)) {
+        println!("{line}");
+    }
+    if let Some(line) = merged::PRODUCT.and_then(|merged| merged::run(&options, merged, levels)) {
+        println!("{line}");
     }
 }
