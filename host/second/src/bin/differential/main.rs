@@ -7,7 +7,7 @@
 //! One summary line for each function; exit 1 at the first difference, with its text or texts. --only tries
 //! one text alone, --case one request of four texts, --pair one pair. The plain program is not expected to agree: its
 //! misreadings are counted, and the exit is 0. It has no requests. --dump writes texts and answers for crosscheck.py,
-//! --corpus only writes the texts, as files for the fuzzer.
+//! --corpus only writes the texts and the pairs, as files for the fuzzer.
 
 mod entitlement;
 mod merged;
@@ -274,11 +274,15 @@ fn plain_line(name: &str, summary: &Summary) -> String {
     )
 }
 
-/// The texts alone, each in a file of its own.
+/// The texts and a share of pairs, each in a file of its own; the fuzzer divides a pair at its NUL byte.
 fn write_corpus(options: &Options, directory: &Path) -> std::io::Result<()> {
     std::fs::create_dir_all(directory)?;
-    (0..options.count)
-        .try_for_each(|index| std::fs::write(directory.join(format!("text-{index}")), case(options.seed, index).text))
+    let write = |name: String, bytes: &[u8]| std::fs::write(directory.join(name), bytes);
+    (0..options.count).try_for_each(|index| write(format!("text-{index}"), &case(options.seed, index).text))?;
+    (0..options.count / merged::TEXTS_TO_A_PAIR).try_for_each(|index| {
+        let pair = second::drawings::case(options.seed, index).texts.join(&0);
+        write(format!("pair-{index}"), &pair)
+    })
 }
 
 /// All texts, or the one that is asked for; gives the summary's lines, none where another run is asked for.

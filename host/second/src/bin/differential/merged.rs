@@ -32,7 +32,7 @@ pub const PRODUCT: Option<MergedLevels> = Some(railnoise_merged_levels);
 pub const PRODUCT: Option<MergedLevels> = None;
 
 /// One pair for so many texts: most are far larger than those.
-const TEXTS_TO_A_PAIR: u64 = 4;
+pub const TEXTS_TO_A_PAIR: u64 = 4;
 
 /// Where texts and cells lie during a call, and railnoise_levels with its own.
 struct Bench {
