@@ -1,6 +1,6 @@
 -- From two texts to the levels of both: the first refusal ends the request and leaves the cells, and the merged study is asked for its levels.
 -- Assumes nothing.
-use mathlib.Core.Path.{_≡_, refl, sym, ap, _∙_}
+use mathlib.Core.Path.{_≡_, refl, ap, _∙_}
 use mathlib.Core.List.{List}
 use Prim.Native.Nat.{ℕ, _≤_}
 use lib.IntN.{ℤ}
@@ -10,7 +10,7 @@ use Rattle.figures.specs.declared.Check.{Check}
 use Rattle.figures.specs.declared.Check.the-variants.{Accepted, Refused}
 use Rattle.figures.specs.Refusal.{checkNumber, firstRefused}
 use Rattle.study.specs.declared.Added.{Added}
-use Rattle.study.specs.Plan.{Plan, planOf}
+use Rattle.study.specs.Plan.{Plan}
 use Rattle.study.specs.Add.{ours}
 use Rattle.study.proofs.Plans.{accepted-held}
 use Rattle.study.proofs.Runs.{run-accepted}
@@ -29,7 +29,7 @@ use Rattle.drawings.specs.Drawings.{mergedOf, mergedIn, toldAt, unlessRe
 use Rattle.merging.proofs.Merges.{merge-is-run}
 
 -- the check of a request's answer
-answer-check : (c : Check) (plan : Plan) (m : Marks) → answerBy c plan m .check ≡ c
+pub answer-check : (c : Check) (plan : Plan) (m : Marks) → answerBy c plan m .check ≡ c
 unfolding answerOf refusedBy
 answer-check Accepted plan m = refl
 answer-check (Refused why) plan m = refl

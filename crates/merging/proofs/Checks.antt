@@ -1,13 +1,12 @@
 -- Whether two studies are few enough for one: 21, then 22, and what the answer is by it.
 -- Assumes nothing.
-use mathlib.Core.Path.{_≡_, refl, sym, ap, _∙_}
+use mathlib.Core.Path.{_≡_, ap, _∙_}
 use Prim.Native.Nat.{ℕ, _+_, _≤_, _<_}
 use native.Mathlib.Nat.{lt-of-not-le}
 use native.Mathlib.Decide.{decLe}
 use native.Mathlib.Omega.{arith}
 use borrow.Author.Tests.{le-leb, lt-leb, leb-true}
 use lib.Dec.{leb}
-use lib.ListN.{length}
 use Rattle.figures.specs.declared.Refusal.{Refusal}
 use Rattle.figures.specs.declared.Refusal.the-variants.{SegmentLimit, EntryLimit}
 use Rattle.figures.specs.declared.Check.{Check}
@@ -20,7 +19,7 @@ use Rattle.study.specs.declared.Study.{Study}
 use Rattle.study.specs.declared.Added.{Added}
 use Rattle.study.specs.declared.lists.Holdings.{Holdings}
 use Rattle.study.specs.Plan.{Plan, planOf, heldBy}
-use Rattle.study.specs.Add.{Limits, ours, answer}
+use Rattle.study.specs.Add.{Limits, ours}
 use Rattle.study.specs.Run.{runFrom, listed}
 use Rattle.study.proofs.Additions.{answered, refused-keeps, accepted-takes}
 use Rattle.study.proofs.Sizes.{Opens}

@@ -1,22 +1,19 @@
 -- The laws of a merge, and demand 3 for a merged study.
 -- Assumes nothing.
 use mathlib.Core.Path.{_≡_, sym, ap, _∙_, subst}
-use mathlib.Core.List.{List}
-use lib.IntN.{ℤ}
 use Rattle.figures.specs.Refusal.{numberOf, checkNumber}
 use Rattle.study.specs.declared.Study.{Study}
 use Rattle.study.specs.Plan.{planOf}
 use Rattle.study.specs.Add.{Limits, ours}
-use Rattle.study.specs.Run.{Addition, run, accepted}
+use Rattle.study.specs.Run.{accepted}
 use Rattle.study.proofs.Plans.{accepted-held}
 use Rattle.study.proofs.Runs.{LimitsFit, run-accepted}
-use Rattle.request.specs.declared.Answer.{Answer}
 use Rattle.request.specs.Request.{AnsweredBy, Answered}
 use Rattle.request.specs.Accuracy.{Band, AccurateRuns, sharpest}
 use Rattle.request.proofs.Demand3.{ours-fit, demand-3, demand-3-sharp}
-use Rattle.merging.specs.Merge.{mergeCheck, merged}
+use Rattle.merging.specs.Merge.{mergeCheck}
 use Rattle.merging.specs.Joined.{mergedPlan}
-use Rattle.merging.specs.Laws.{typedWhole, MergeLaws, AccurateMerges, MergedDemand3}
+use Rattle.merging.specs.Laws.{MergeLaws, AccurateMerges, MergedDemand3}
 use Rattle.merging.proofs.Checks.{segments-over, entries-over, both-within, twenty-one, twenty-two}
 use Rattle.merging.proofs.Merges.{merged-check, given-back, lists, is-run, is-whole, merge-is-run, with-empty, to-empty, last-accepted, associative}
 use Rattle.merging.proofs.OwnLevels.{own-levels, own-fences}

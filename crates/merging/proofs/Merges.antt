@@ -1,10 +1,9 @@
 -- The merge of two studies that additions made: its lists, the list of additions that it is the study of, and merges with the empty study and of three.
 -- Assumes nothing.
 use mathlib.Core.Path.{_≡_, refl, sym, ap, ap₂, _∙_}
-use mathlib.Core.List.{List, [], _++_, append-assoc}
+use mathlib.Core.List.{List, _++_}
 use Prim.Native.Nat.{_+_}
 use native.Mathlib.Omega.{arith}
-use lib.ListN.{length}
 use Rattle.figures.specs.declared.Check.{Check}
 use Rattle.figures.specs.declared.Check.the-variants.{Accepted, Refused}
 use Rattle.figures.specs.declared.Refusal.{Refusal}
@@ -20,7 +19,7 @@ use Rattle.study.proofs.Listed.{listed-accepted, listed-all, run-listed}
 use Rattle.merging.specs.Merge.{mergeCheck, merged}
 use Rattle.merging.specs.Joined.{joined, mergedPlan}
 use Rattle.merging.specs.Laws.{typedWhole}
-use Rattle.merging.proofs.Checks.{both-within, Within, within}
+use Rattle.merging.proofs.Checks.{both-within, within}
 use Rattle.merging.proofs.Joining.{joined-count, joined-total, joined-nothing, Room, join-all, none-refused-after}
 
 -- ---- any two studies
@@ -80,6 +79,10 @@ module _ (l : Limits) (fit : LimitsFit l) where
     lists-joined : both .check ≡ Accepted → planOf (both .study) ≡ joined (accepted l xs) (accepted l ys)
     unfolding mergedPlan kept
     lists-joined e = lists ∙ rw (sym check-is ∙ e)
+
+    -- the same by what the two studies hold
+    pub made-joined : mergeCheck l (planOf (run l xs)) (planOf (run l ys)) ≡ Accepted → planOf (both .study) ≡ joined (planOf (run l xs)) (planOf (run l ys))
+    made-joined e = lists-joined (merged-check l (run l xs) (run l ys) ∙ e) ∙ rw (run-accepted l fit xs, run-accepted l fit ys) refl
 
     pub is-run : both .check ≡ Accepted → both .study ≡ run l (xs ++ listed (accepted l ys))
     unfolding run

@@ -1,14 +1,11 @@
 -- In joined lists each entry has the segment, and so the level and the fence, that it has in its own.
 -- Assumes nothing.
-use mathlib.Core.Path.{_≡_, refl, sym, ap, ap₂, _∙_}
+use mathlib.Core.Path.{_≡_, refl, sym, ap₂, _∙_}
 use mathlib.Core.Bool.{Bool, true, false, cond}
 use mathlib.Core.List.{List, [], _∷_, _++_, map, map-append}
 use Prim.Native.Nat.{ℕ, _+_, _<_}
-use lib.IntN.{ℤ}
-use lib.ListN.{length, getD, List·getD-append}
+use lib.ListN.{length, List·getD-append}
 use lib.Seq.{getD-append-add}
-use Rattle.decibel.specs.declared.Level.{Level}
-use Rattle.figures.specs.declared.Segment.{Segment}
 use Rattle.figures.specs.declared.Period.{Period}
 use Rattle.propagation.specs.Propagation.{propagationOf}
 use Rattle.emission.specs.Trains.{sounds}
@@ -17,7 +14,7 @@ use Rattle.study.specs.Plan.{Plan, segmentAt, noSegment}
 use Rattle.study.specs.Add.{Limits}
 use Rattle.study.proofs.Plans.{Each, none, next, EntryHeld, PlanHeld}
 use Rattle.request.specs.Entry.{levelBy, entryFence}
-use Rattle.request.specs.Levels.{Marks, levelAt, levelsOf, ownMarks}
+use Rattle.request.specs.Levels.{levelAt, levelsOf, ownMarks}
 use Rattle.request.specs.Accuracy.{fencesOf}
 use Rattle.request.proofs.Counts.{own-marks}
 use Rattle.merging.specs.Joined.{raisedBy, joined}

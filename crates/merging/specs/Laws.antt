@@ -12,8 +12,7 @@ use Rattle.figures.specs.declared.Refusal.{Refusal}
 use Rattle.figures.specs.declared.Check.the-variants.{Accepted, Refused}
 use Rattle.figures.specs.Refusal.{checkNumber}
 use Rattle.study.specs.declared.Study.{Study}
-use Rattle.study.specs.declared.Added.{Added}
-use Rattle.study.specs.Plan.{Plan, planOf, emptyStudy}
+use Rattle.study.specs.Plan.{planOf, emptyStudy}
 use Rattle.study.specs.Add.{Limits, ours}
 use Rattle.study.specs.Run.{Addition, run, accepted, listed}
 use Rattle.request.specs.declared.Answer.{Answer}

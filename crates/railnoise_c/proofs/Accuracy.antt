@@ -14,7 +14,6 @@ use Rattle.study.specs.Add.{ours}
 use Rattle.study.specs.Plan.{Plan, planOf}
 use Rattle.request.specs.Levels.{ownMarks}
 use Rattle.request.specs.Request.{cellsNeeded, levelsCheck, answerBy, Answered, resultIn, answerOf}
-use Rattle.request.specs.Accuracy.{AccurateToBare, demanded}
 use Rattle.study.proofs.Runs.{run-accepted}
 use Rattle.request.proofs.Demand3.{request-answered, ours-fit}
 use Rattle.text.specs.Text.{readText}

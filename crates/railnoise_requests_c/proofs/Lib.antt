@@ -1,3 +1,4 @@
 pub mod Texts
 pub mod Calls
 pub mod Refusals
+pub mod Accuracy

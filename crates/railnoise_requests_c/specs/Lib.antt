@@ -1,3 +1,4 @@
 pub mod Entitlement
 pub mod Merged
+pub mod Accuracy
 pub mod Private

@@ -236,11 +236,11 @@ fn merged_answer_of(answer: MergedAnswer) -> RailnoiseMergedAnswer
 {
     let check = answer.check;
     let refusal = check_number(check);
-    let at = line_value(answer.line);
+    let line = line_value(answer.line);
     RailnoiseMergedAnswer {
-        refusal: refusal,
+        refusal,
         text: answer.text,
-        line: at,
+        line,
         day: period_value(answer.day),
         night: period_value(answer.night),
     }

@@ -170,13 +170,13 @@ pub unsafe extern "C" fn railnoise_entitlement(
 #[cfg(feature = "mock")]
 #[no_mangle]
 pub unsafe extern "C" fn railnoise_merged_levels(
-    first: *const u8,
-    first_length: usize,
-    second: *const u8,
-    second_length: usize,
+    one: *const u8,
+    one_length: usize,
+    other: *const u8,
+    other_length: usize,
     cells: *mut i32,
     cell_count: usize,
 ) -> MergedAnswer {
     let cells = if cells.is_null() { &mut [] } else { std::slice::from_raw_parts_mut(cells, cell_count) };
-    merged_levels([bytes(first, first_length), bytes(second, second_length)], cells, false)
+    merged_levels([bytes(one, one_length), bytes(other, other_length)], cells, false)
 }

@@ -5,6 +5,9 @@ use second::generate::case;
 use second::interface::Answer;
 use second::mock::levels;
 
+mod slips;
+use slips::{period_slips, STEPS};
+
 fn answered(text: &[u8], cells: usize, turned: bool) -> (Vec<i32>, Vec<i32>, Answer) {
     let before: Vec<i32> = (0..cells as i32).map(|i| 1000 + i).collect();
     let mut after = before.clone();
@@ -19,22 +22,12 @@ fn free(report: &Report) -> bool {
 /// Answers that differ from a given one in one place.
 fn slips(answer: Answer) -> Vec<Answer> {
     let mut list = Vec::new();
-    for step in [1u32, u32::MAX] {
+    for step in STEPS {
         list.push(Answer { refusal: answer.refusal.wrapping_add(step), ..answer });
         list.push(Answer { line: answer.line.wrapping_add(step), ..answer });
-        for day in [true, false] {
-            let mut slip = |change: &dyn Fn(&mut second::interface::PeriodAnswer)| {
-                let mut wrong = answer;
-                change(if day { &mut wrong.day } else { &mut wrong.night });
-                list.push(wrong);
-            };
-            slip(&|period| period.level = period.level.wrapping_add(step as i32));
-            slip(&|period| period.close = period.close.wrapping_add(step));
-            slip(&|period| period.silent ^= 1);
-            slip(&|period| period.met ^= 1);
-            slip(&|period| period.met += 2);
-        }
     }
+    list.extend(period_slips(answer.day).into_iter().map(|day| Answer { day, ..answer }));
+    list.extend(period_slips(answer.night).into_iter().map(|night| Answer { night, ..answer }));
     list
 }
 

@@ -11,6 +11,9 @@ use second::mock::{levels, merged_levels};
 use second::reader::read;
 use second::study::Study;
 
+mod slips;
+use slips::{period_slips, STEPS};
+
 /// Without a screen, and behind one.
 const OPEN: &str = "2600 180 420 3 160 170 0 0 0 0 0 0 1 0 0";
 const WALLED: &str = "6200 150 300 4 90 120 1 900 260 0 0 0 1 10 15";
@@ -201,23 +204,13 @@ fn both_choices_of_free_marks_are_allowed() {
 /// Answers that differ from a given one in one place.
 fn slips(answer: MergedAnswer) -> Vec<MergedAnswer> {
     let mut list = Vec::new();
-    for step in [1u32, u32::MAX] {
+    for step in STEPS {
         list.push(MergedAnswer { refusal: answer.refusal.wrapping_add(step), ..answer });
         list.push(MergedAnswer { text: answer.text.wrapping_add(step), ..answer });
         list.push(MergedAnswer { line: answer.line.wrapping_add(step), ..answer });
-        for day in [true, false] {
-            let mut slip = |change: &dyn Fn(&mut PeriodAnswer)| {
-                let mut wrong = answer;
-                change(if day { &mut wrong.day } else { &mut wrong.night });
-                list.push(wrong);
-            };
-            slip(&|period| period.level = period.level.wrapping_add(step as i32));
-            slip(&|period| period.close = period.close.wrapping_add(step));
-            slip(&|period| period.silent ^= 1);
-            slip(&|period| period.met ^= 1);
-            slip(&|period| period.met += 2);
-        }
     }
+    list.extend(period_slips(answer.day).into_iter().map(|day| MergedAnswer { day, ..answer }));
+    list.extend(period_slips(answer.night).into_iter().map(|night| MergedAnswer { night, ..answer }));
     list
 }
 
