@@ -25,10 +25,12 @@ TRAIN = re.compile(
     r" trains by day (?P<hours_day>\S+) trains by night (?P<hours_night>\S+) level by day (?P<day>\S+) level by night (?P<night>\S+)")
 RESULT = re.compile(r"(?P<period>day|night) (?P<level>\S+) (?P<close>\d+) (?P<met>yes|no)")
 REFUSED = re.compile(r"refused (?P<number>\d+) line (?P<line>\d+)")
-ADDED = re.compile(r"(?P<name>segment|train|levels|entitlement) (?P<answer>accepted|refused \d+)")
+ADDED = re.compile(r"(?P<name>segment|train|levels|entitlement|merge) (?P<answer>accepted|refused \d+)")
 CONDITIONS = re.compile(
     r"(?P<period>day|night) prevailing (?P<prevailing>\S+) relevant (?P<relevant>\S+) reaches (?P<reaches>yes|no) rises (?P<rises>yes|no) contributes (?P<contributes>yes|no) entitled (?P<entitled>yes|no)")
 KEPT = re.compile(r"kept speed (?P<kept>\d+)")
+HOLDS = re.compile(r"holds segments (?P<segments>\d+) entries (?P<entries>\d+)")
+HEARD = re.compile(r"heard day (?P<day>\S+) night (?P<night>\S+)")
 HOUSE = re.compile(r"house (?P<house>yes|no)")
 # What 10 log Q is above the trains step, in tenths.
 HOURS = {"day": 481, "night": 433}
@@ -125,7 +127,7 @@ def found_in(lines, text):
             found[m["name"]] = m["answer"]
         elif m := CONDITIONS.fullmatch(line):
             found[m["period"]] = m.groupdict()
-        elif m := HOUSE.fullmatch(line) or KEPT.fullmatch(line):
+        elif m := HOUSE.fullmatch(line) or KEPT.fullmatch(line) or HOLDS.fullmatch(line) or HEARD.fullmatch(line):
             found |= m.groupdict()
         elif line != "period level close met":
             sys.exit("not a line of a breakdown: " + line)

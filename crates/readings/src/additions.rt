@@ -7,7 +7,7 @@ use libc::STDOUT_FILENO;
 use study::Study;
 
 // A segment that keeps its lines but perhaps for its distance. Its other figures are 0, as at a place that nothing was added to.
-fn plain_segment(distance: i32) -> Segment {
+pub(crate) fn plain_segment(distance: i32) -> Segment {
     let mut segment = study::no_segment();
     segment.distance = distance;
     segment.view = 180;
@@ -35,7 +35,7 @@ pub(crate) fn with_segments(n: usize) -> Study {
     study
 }
 
-fn with_trains(start: Study, n: usize) -> Study {
+pub(crate) fn with_trains(start: Study, n: usize) -> Study {
     let mut study = start;
     for _ in 0..n {
         let added = study::add_train(study, plain_train(1));

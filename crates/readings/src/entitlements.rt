@@ -31,7 +31,7 @@ fn without_entry(empty: bool) -> Lines {
 }
 
 // A level in tenths; none here is below zero.
-fn show_level(name: &[u8], level: Level) {
+pub(crate) fn show_level(name: &[u8], level: Level) {
     put(name);
     match level {
         Level::Silent => put(b" silent"),

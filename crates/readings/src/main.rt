@@ -1,9 +1,10 @@
-// Writes the breakdown of each study text of a list under its title, then what additions to a study are refused with, and entitlement over
-// studies.
+// Writes the breakdown of each study text of a list under its title, then what additions to a study are refused with, and entitlement and
+// merges over studies.
 //
 // The list is standard input. A title is a line that begins with `#`; the study text after it ends at the next `#`.
 mod additions;
 mod entitlements;
+mod merges;
 
 ghost use Prim.Native.Nat.{_≤_};
 ghost use lib.ListN.{length};
@@ -60,4 +61,5 @@ fn main() {
     show_each(&list[..length]);
     additions::show_each();
     entitlements::show_each();
+    merges::show_each();
 }
