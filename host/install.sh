@@ -82,3 +82,4 @@ PKG_CONFIG_PATH=$build/prefix/lib/pkgconfig
 export PKG_CONFIG_PATH
 example 1 railnoise
 example 2 railnoise_requests
+example 3 railnoise_requests

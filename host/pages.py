@@ -10,6 +10,8 @@
 - The refused lines of docs/PLANNER.md, put into docs/studies/entry.txt, give the refusal beside them.
 - The study that docs/PLANNER.md explains is docs/studies/planner.txt.
 - The house that README.md and include/railnoise_requests.h show has the studies HOUSE of docs/studies, and they and docs/PLANNER.md give the same answer.
+- The two drawings that README.md, include/railnoise_requests.h and docs/PLANNER.md show are YARD and LINE of docs/studies, BOTH has the lines of both, and
+  its levels are those shown.
 - Ranges and limits are those of the rules (host/ranges.py, which needs no program and can be run alone).
 """
 import re
@@ -23,6 +25,7 @@ PLANNER = (ROOT / "docs" / "PLANNER.md").read_text()
 ENTRY = (ROOT / "docs" / "studies" / "entry.txt").read_text().splitlines()
 WORDS = "--words" in sys.argv[1:]
 HOUSE = ["terminal_before", "terminal_after", "line"]
+YARD, LINE, BOTH = "terminal_after", "main_line", "yard_and_main_line"
 
 
 def blocks(page):
@@ -103,4 +106,32 @@ def house():
     yield "".join(f"    {line}\n" for line in printed.splitlines()) in PLANNER, "docs/PLANNER.md has another answer than README.md"
 
 
-ranges.report("pages", [*commands(), *rows(), *refused_lines(), *study(), *house(), *ranges.results()])
+def typed(name):
+    """The lines of a study of docs/studies, the contents' numbers apart."""
+    contents, *lines = (ROOT / "docs" / "studies" / f"{name}.txt").read_text().splitlines()
+    return [int(number) for number in contents.split()], lines
+
+
+def drawings():
+    pages = {name: (ROOT / name).read_text() for name in ["README.md", "include/railnoise_requests.h"]}
+    (yard, yard_lines), (line, line_lines), (both, both_lines) = map(typed, [YARD, LINE, BOTH])
+    whole = [yard[0] + line[0], *yard[1:], *line[1:]]
+    yield both == whole and both_lines == yard_lines + line_lines, f"docs/studies/{BOTH}.txt is not {YARD}.txt and {LINE}.txt"
+    for page, text in pages.items():
+        joined = re.sub(r'"\n[ *]*"', "", text)  # a literal in two pieces
+        for name in [YARD, LINE]:
+            literal = (ROOT / "docs" / "studies" / f"{name}.txt").read_text().replace("\n", "\\n")
+            yield literal in joined, f"{page} does not show docs/studies/{name}.txt"
+    printed = re.findall(r"^```text\n(.*?)^```$", pages["README.md"], re.M | re.S)[2]  # what README's third example prints
+    shown = re.findall(r"^(day|night): (\S+) dB, close (\d+)(, met)?$", printed, re.M)
+    expected = "".join(f"{period} {level} {close} {'yes' if met else 'no'}\n" for period, level, close, met in shown)
+    written = answer((ROOT / "docs" / "studies" / f"{BOTH}.txt").read_text())
+    yield written == "period level close met\n" + expected and len(shown) == 2, f"README.md's two drawings: {written}"
+    yield "".join(f" *     {line}\n" for line in printed.splitlines()) in pages["include/railnoise_requests.h"], "the requests' header has other levels than README.md"
+    yield "".join(f"    {line}\n" for line in printed.splitlines()) in PLANNER, "docs/PLANNER.md has other levels than README.md"
+    for name in [YARD, LINE]:
+        levels = " and ".join(re.findall(r"^(?:day|night) (\S+)", answer((ROOT / "docs" / "studies" / f"{name}.txt").read_text()), re.M))
+        yield levels in pages["include/railnoise_requests.h"], f"the requests' header does not give the levels of docs/studies/{name}.txt: {levels}"
+
+
+ranges.report("pages", [*commands(), *rows(), *refused_lines(), *study(), *house(), *drawings(), *ranges.results()])

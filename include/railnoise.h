@@ -107,7 +107,7 @@
 #define RAILNOISE_H
 
 /* The version, in this one place: railnoise.sh --version and the pkg-config file take it from here. */
-#define RAILNOISE_VERSION "0.4.0"
+#define RAILNOISE_VERSION "0.5.0"
 
 #include <stdbool.h>
 #include <stddef.h>
@@ -150,10 +150,11 @@ typedef struct {
 /* Refusals. The first line of the text at fault decides. Within a line 12 comes before all else,
  * then the lowest number that applies. A text's refusal comes before 24.
  *
- * railnoise_levels never answers with 20 to 23, and railnoise_entitlement (railnoise_requests.h) with none
- * above 13: 20 to 23 belong to studies that are built addition by addition, and a text that would lead to
- * one of them is refused as 12 or 13. They have names and words here so that every refusal of the product
- * has both. */
+ * railnoise_levels never answers with 20 to 23: they belong to studies that are built addition by addition or
+ * of two, and a text that would lead to one of them is refused as 12 or 13. Of the functions of
+ * railnoise_requests.h railnoise_entitlement answers with none above 13, and railnoise_merged_levels also with
+ * 21 and 22, of two texts together. 20 and 23 come from no function of C; they have names and words here so
+ * that every refusal of the product has both. */
 enum {
     RAILNOISE_ANSWERED = 0,
     RAILNOISE_DISTANCE = 1,        /* d is not 1000 to 30000 cm */
@@ -176,8 +177,8 @@ enum {
                                       number count, or the text is longer than 16,384 bytes (line 0) */
     RAILNOISE_CONTENTS = 13,       /* the contents line is out of range, or a line is missing or extra */
     RAILNOISE_NO_SEGMENT = 20,     /* a train entry before any segment; never from a text */
-    RAILNOISE_EXTRA_SEGMENT = 21,  /* a 25th segment; never from a text */
-    RAILNOISE_EXTRA_ENTRY = 22,    /* a 97th train entry; never from a text */
+    RAILNOISE_EXTRA_SEGMENT = 21,  /* a 25th segment: two texts have more than 24 together */
+    RAILNOISE_EXTRA_ENTRY = 22,    /* a 97th train entry: two texts have more than 96 together */
     RAILNOISE_NO_ENTRY = 23,       /* levels asked without a train entry; never from a text */
     RAILNOISE_CELLS = 24           /* fewer than two cells for each train entry (line 0) */
 };

@@ -102,12 +102,14 @@ typedef struct {
  * the levels that the two drawings report by themselves, added: those are rounded once more.
  *
  * first, second: two study texts with their lengths, as railnoise_levels takes one. Each needs at least one
- *     train entry; of a drawing without trains nothing is heard, so ask railnoise_levels for the other. Both
- *     are only read, and one text may be given twice. Nobody can check here that both are of the same window.
+ *     train entry: a text without one is refused with 13 at line 1, and nothing would be heard of it, so ask
+ *     railnoise_levels for the other alone. Both are only read, and one text may be given twice. Nobody can
+ *     check here that both are of the same window.
  * cells, cell_count: working cells. With t train entries in both texts together, an answer leaves the t day
  *     levels, those of the first text's entries before the second's, then the t night levels likewise, in the
  *     first 2t cells, tenths of a decibel, a silent one as -9999. Further cells are untouched. What the cells
- *     held before makes no difference; RAILNOISE_MOST_CELLS are always enough.
+ *     held before makes no difference; RAILNOISE_MOST_CELLS are always enough. No cells, given as count 0 with
+ *     any pointer, null too, lead to refusal 24 when all else is good.
  *
  * Refused, in this order: the first text, by its own number at its line; the second text, likewise; more than
  * 24 segments together, 21; more than 96 train entries together, 22; fewer than 2t cells, 24. On a refusal
@@ -115,9 +117,13 @@ typedef struct {
  *
  * A null pointer goes only with length 0, and the cells must not overlap a text.
  *
- * The yard has 1 segment with 2 entries, the main line 2 segments with 1 and 2:
- *     first   @FIRST@
- *     second  @SECOND@
+ * A yard of 1 segment with 2 entries, and a main line of 2 segments with 1 and 2:
+ *     first   "1 2\n2000 330 235 5 180 180 0 0 0 0 0 0 1 0 0\n20 50 30 24 8\n26 50 1 24 8\n"
+ *     second  "2 1 2\n5000 330 235 5 140 140 0 0 0 0 0 0 1 0 0\n10 120 8 80 24\n"
+ *             "5000 330 235 0 40 40 1 800 200 0 0 0 1 0 0\n10 120 8 80 24\n20 90 25 12 6\n"
+ * Their levels by day and night: the yard's 57.6 and 57.6, the main line's 62.7 and 62.3. Together
+ *     day: 63.9 dB, close 0
+ *     night: 63.6 dB, close 0, met
  */
 railnoise_merged_answer railnoise_merged_levels(const uint8_t *first, size_t first_length,
                                                 const uint8_t *second, size_t second_length,
