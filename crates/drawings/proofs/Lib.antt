@@ -1,2 +1,5 @@
+pub mod FirstLine
+pub mod Texts
+pub mod Periods
 pub mod Answers
 pub mod Laws

@@ -2,4 +2,5 @@ pub mod Checks
 pub mod Joining
 pub mod Merges
 pub mod OwnLevels
+pub mod OwnCounts
 pub mod Laws

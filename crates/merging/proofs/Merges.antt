@@ -76,7 +76,7 @@ module _ (l : Limits) (fit : LimitsFit l) where
         plan-by (mergeCheck l (planOf (run l xs)) (planOf (run l ys))) (run l xs) (runFrom l (run l xs) (listed (planOf (run l ys)))) (joined (accepted l xs) (accepted l ys)) made
         ∙ rw (run-accepted l fit xs, run-accepted l fit ys) refl
 
-    lists-joined : both .check ≡ Accepted → planOf (both .study) ≡ joined (accepted l xs) (accepted l ys)
+    pub lists-joined : both .check ≡ Accepted → planOf (both .study) ≡ joined (accepted l xs) (accepted l ys)
     unfolding mergedPlan kept
     lists-joined e = lists ∙ rw (sym check-is ∙ e)
 

@@ -30,11 +30,11 @@ module _ (p : Period) where
 
 module _ (a b : Plan) where
   -- a place of the first list, and one of the second
-  first-place : (k : ℕ) → k < length (a .segments) → segmentAt (joined a b) k ≡ segmentAt a k
+  pub first-place : (k : ℕ) → k < length (a .segments) → segmentAt (joined a b) k ≡ segmentAt a k
   unfolding joined
   first-place k h = List·getD-append (a .segments) (b .segments) noSegment k h
 
-  second-place : (k : ℕ) → segmentAt (joined a b) (length (a .segments) + k) ≡ segmentAt b k
+  pub second-place : (k : ℕ) → segmentAt (joined a b) (length (a .segments) + k) ≡ segmentAt b k
   unfolding joined
   second-place k = getD-append-add (a .segments) (b .segments) k noSegment
 

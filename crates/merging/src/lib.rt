@@ -14,7 +14,7 @@ use study::extended;
 use study::holdings_of;
 
 // Whether a study may hold so many segments and so many train entries: 21, then 22.
-fn limits_check(segments: usize, entries: usize) -> Check
+pub fn limits_check(segments: usize, entries: usize) -> Check
     ensures { λ r. ⌜ r ≡ limitsCheck ours segments entries ⌝ }
 {
     if MOST_SEGMENTS < segments {

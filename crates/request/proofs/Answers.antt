@@ -71,27 +71,27 @@ plan-number plan n d e = answer-number (levelsCheck plan n) d e refl ∙ request
 pub mark-allowed : (cells : List ℤ) → TotalMark (heard (take (ours .entries) cells)) (totalMark (heard (take (ours .entries) cells)))
 mark-allowed cells = total-allowed (heard (take (ours .entries) cells)) (omega (arith, heard-few (take (ours .entries) cells), length-take (ours .entries) cells)) (heard-kept (take (ours .entries) cells))
 
+-- both are written
+pub both-laid : (day night before : List ℤ) {first after : List ℤ} → first ≡ paste before 0 day (length day) → after ≡ paste first (length day) night (length night) → after ≡ day ++ (night ++ drop (length day + length night) before)
+both-laid day night before {first} {after} a b =
+    let rest = day ++ drop (0 + length day) before in
+    let d : first ≡ rest = a ∙ ap (λ (x : List ℤ). x ++ drop (0 + length day) before) (take-all (length day) day (omega arith)) in
+    let w : 0 + length day + length night ≡ length day + length night = omega arith in
+    let past : drop (length day + length night) rest ≡ drop (length day + length night) before =
+    drop-append-add day (drop (0 + length day) before) (length night) ∙ drop-drop (length night) (0 + length day) before ∙ ap (λ (k : ℕ). drop k before) w in
+    b ∙ ap (λ (x : List ℤ). paste x (length day) night (length night)) d
+    ∙ rw (take-at day (drop (0 + length day) before) (length day) refl, take-all (length night) night (omega arith), past) (append-assoc day night (drop (length day + length night) before))
+
 module _ (day night : List ℤ) (places : List ℕ) (close : List Bool) (before : List ℤ) where
   -- a refusal leaves the cells
   pub refused-from : (r : Refusal) {a : Answer} → checkFrom day night (length before) ≡ Refused r → a ≡ refusedBy r → AnsweredFrom day night places close before before a
   unfolding laid answerOf
   refused-from r e f = record { cells = rw e; answer = f ∙ rw e; day = mark-allowed day; night = mark-allowed night }
 
-  -- both are written
-  both-laid : {first after : List ℤ} → first ≡ paste before 0 day (length day) → after ≡ paste first (length day) night (length night) → after ≡ day ++ (night ++ drop (length day + length night) before)
-  both-laid {first} {after} a b =
-      let rest = day ++ drop (0 + length day) before in
-      let d : first ≡ rest = a ∙ ap (λ (x : List ℤ). x ++ drop (0 + length day) before) (take-all (length day) day (omega arith)) in
-      let w : 0 + length day + length night ≡ length day + length night = omega arith in
-      let past : drop (length day + length night) rest ≡ drop (length day + length night) before =
-      drop-append-add day (drop (0 + length day) before) (length night) ∙ drop-drop (length night) (0 + length day) before ∙ ap (λ (k : ℕ). drop k before) w in
-      b ∙ ap (λ (x : List ℤ). paste x (length day) night (length night)) d
-      ∙ rw (take-at day (drop (0 + length day) before) (length day) refl, take-all (length night) night (omega arith), past) (append-assoc day night (drop (length day + length night) before))
-
   pub accepted-from : {first after : List ℤ} {d n : PeriodResult} → checkFrom day night (length before) ≡ Accepted → first ≡ paste before 0 day (length day) → after ≡ paste first (length day) night (length night)
       → d ≡ periodFrom Day day places close → n ≡ periodFrom Night night places close → AnsweredFrom day night places close before after (record { check = Accepted; day = d; night = n })
   unfolding laid answerOf
-  accepted-from e a b d n = record { cells = both-laid a b ∙ rw e; answer = rw (d, n, e); day = mark-allowed day; night = mark-allowed night }
+  accepted-from e a b d n = record { cells = both-laid day night before a b ∙ rw e; answer = rw (d, n, e); day = mark-allowed day; night = mark-allowed night }
 
 -- an answer, and its number
 pub answered-from : {ds ns : List ℤ} {ps : List ℕ} {cs : List Bool} {before after : List ℤ} {r : Answer} → AnsweredFrom ds ns ps cs before after r → AnsweredFrom ds ns ps cs before after r × (checkNumber (r .check) ≡ requestNumber (length ds) (length ds + length ns) (length before))

@@ -1,7 +1,7 @@
 -- How many numbers pass a test, and a period's close count as such.
 -- Assumes nothing.
 use mathlib.Core.Path.{_≡_, refl, sym, ap, _∙_}
-use mathlib.Core.Bool.{Bool, false, _&&_}
+use mathlib.Core.Bool.{Bool, true, false, cond, _&&_}
 use mathlib.Core.List.{List, [], _∷_}
 use Prim.Native.Nat.{ℕ, zero, suc, _+_, _-_, _<_, _≤_}
 use native.Mathlib.Nat.{add-zero, add-suc, not-suc-le-zero}
@@ -46,15 +46,29 @@ unfolding countTo
 count-none f zero h = refl
 count-none f (suc n) h = rw (h n, count-none f n h)
 
+-- no more than there are
+count-most : (f : ℕ → Bool) (n : ℕ) → countTo f n ≤ n
+unfolding countTo
+count-most f zero = omega arith
+count-most f (suc n) = go (f n) (count-most f n)
+  where
+    go : (b : Bool) → countTo f n ≤ n → countTo f n + cond b 1 0 ≤ suc n
+    go true h = omega arith
+    go false h = omega arith
+
+-- those below n, and those from n on
+pub count-append : (f : ℕ → Bool) (n d : ℕ) → countTo f (n + d) ≡ countTo f n + countTo (λ k. f (n + k)) d
+unfolding countTo
+count-append f n zero = rw (add-zero n) (omega arith)
+count-append f n (suc d) = rw (add-suc n d, count-append f n d) (omega arith)
+
 -- no number from n on passes
 count-past : (f : ℕ → Bool) (n d : ℕ) → ((k : ℕ) → n ≤ k → f k ≡ false) → countTo f (n + d) ≡ countTo f n
-unfolding countTo
-count-past f n zero h = rw (add-zero n)
-count-past f n (suc d) h = rw (add-suc n d, h (n + d) (omega arith), count-past f n d h) (add-zero _)
+count-past f n d h = count-append f n d ∙ rw (count-none (λ k. f (n + k)) d (λ k. h (n + k) (omega arith))) (omega arith)
 
 module _ (p : Period) (plan : Plan) (m : Marks) where
   -- the segment at a place counts
-  abbrev counts : ℕ → Bool
+  abbrev pub counts : ℕ → Bool
   counts k = markAt m k && heardAt p k (plan .entries)
 
   close-from : (k : ℕ) (ss : List Segment) → closeFrom p plan m k ss + countTo counts k ≡ countTo counts (k + length ss)
@@ -64,11 +78,14 @@ module _ (p : Period) (plan : Plan) (m : Marks) where
       let e : suc k + length ss ≡ k + suc (length ss) = omega arith in
       omega (arith, close-from (suc k) ss, ap (countTo counts) e)
 
-  close-is : closeSegments p plan m ≡ countTo counts (length (plan .segments))
+  pub close-is : closeSegments p plan m ≡ countTo counts (length (plan .segments))
   unfolding closeSegments countTo
   close-is =
       let e : 0 + length (plan .segments) ≡ length (plan .segments) = omega arith in
       omega (arith, close-from 0 (plan .segments), ap (countTo counts) e)
+
+  pub close-most : closeSegments p plan m ≤ length (plan .segments)
+  close-most = omega (arith, close-is, count-most counts (length (plan .segments)))
 
 -- the program's own marks are those of the segments
 pub own-marks : (plan : Plan) (k : ℕ) → markAt (ownMarks plan) k ≡ propagationOf (segmentAt plan k) .close

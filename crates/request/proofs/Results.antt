@@ -1,6 +1,6 @@
 -- A period's result from its levels, and the marks that it rests on, which 01 allows.
 -- Assumes nothing.
-use mathlib.Core.Path.{_≡_, refl, sym, ap, ap₂, _∙_, subst}
+use mathlib.Core.Path.{_≡_, refl, sym, ap, _∙_, subst}
 use mathlib.Core.Bool.{Bool, false, cond, _&&_}
 use Prim.Native.Nat.{ℕ, _+_, _≤_, min}
 use native.Mathlib.Nat.{min-comm}
@@ -22,7 +22,7 @@ use Rattle.study.specs.Add.{ours}
 use Rattle.request.specs.declared.PeriodResult.{PeriodResult}
 use Rattle.study.specs.Plan.{Plan, segmentAt}
 use Rattle.study.proofs.Sizes.{take-min}
-use Rattle.request.specs.Levels.{levelsOf, levelAt, figures, totalMarkIn, groundMarks, ownMarks, metBy, resultFrom, resultBy, MarksAllowed}
+use Rattle.request.specs.Levels.{levelsOf, levelAt, figures, totalMarkIn, groundMarks, ownMarks, closeSegments, metBy, resultFrom, resultBy, MarksAllowed}
 use Rattle.request.specs.Request.{soundsAt, countTo, periodFrom}
 use Rattle.request.specs.Private.{placesOf, SegmentsHeard, CloseCount, CloseSegments}
 use Rattle.request.proofs.Totals.{figures-kept, figures-few, cells-heard, cells-sound}
@@ -66,22 +66,28 @@ module _ (p : Period) (plan : Plan) where
   unfolding resultBy resultFrom levelsOf levelAt ownMarks totalOf
   own-level = ap (λ (b : Bool). totalBy b (figures (map (levelAt p plan (groundMarks plan)) (plan .entries))) .level) own-total
 
-  -- from the levels: their total, the segments heard in them, and the verdict on the total
+  -- all of them are heard
+  all-taken : length (plan .entries) ≤ ours .entries → take (ours .entries) (cellsOf p plan) ≡ cellsOf p plan
+  all-taken rows = take-all (ours .entries) (cellsOf p plan) (omega (arith, cells-length p plan))
+
+  -- from the levels in the cells: their total, and the verdict on it
+  pub result-is : length (plan .entries) ≤ ours .entries → resultBy p plan (ownMarks plan) ≡ resultFrom p (totalOf (heard (take (ours .entries) (cellsOf p plan)))) (closeSegments p plan (ownMarks plan))
+  unfolding resultBy levelsOf levelAt ownMarks totalOf
+  result-is rows =
+      ap (λ (t : Total). resultFrom p t (closeSegments p plan (ownMarks plan)))
+      (ap (λ (b : Bool). totalBy b (figures (map (levelAt p plan (groundMarks plan)) (plan .entries)))) own-total
+      ∙ ap totalOf (sym (cells-heard p plan (groundMarks plan) (plan .entries)))
+      ∙ ap (λ (cs : List ℤ). totalOf (heard cs)) (sym (all-taken rows)))
+
+  -- and the segments heard in them
   pub period-is : (close : List Bool) → length (plan .segments) ≤ ours .segments → length (plan .entries) ≤ ours .entries → ((k : ℕ) → getD close k false ≡ propagationOf (segmentAt plan k) .close)
       → periodFrom p (cellsOf p plan) (placesOf (plan .entries)) close ≡ resultBy p plan (ownMarks plan)
-  unfolding periodFrom resultBy levelsOf levelAt ownMarks totalOf
+  unfolding periodFrom levelsOf
   period-is close few rows all =
-      ap₂ (resultFrom p) (total-is ∙ ap (λ (b : Bool). totalBy b (figures (map (levelAt p plan (groundMarks plan)) (plan .entries)))) (sym own-total))
-      (ap (λ (cs : List ℤ). countTo (λ k. getD close k false && soundsAt k (placesOf (plan .entries)) cs) (ours .segments)) all-taken
+      ap (resultFrom p (totalOf (heard (take (ours .entries) (cellsOf p plan)))))
+      (ap (λ (cs : List ℤ). countTo (λ k. getD close k false && soundsAt k (placesOf (plan .entries)) cs) (ours .segments)) (all-taken rows)
       ∙ close-found p plan close (λ k. soundsAt k (placesOf (plan .entries)) (cellsOf p plan)) few all (λ k. cells-sound p plan (groundMarks plan) k (plan .entries)))
-    where
-      all-taken : take (ours .entries) (cellsOf p plan) ≡ cellsOf p plan
-      all-taken = take-all (ours .entries) (cellsOf p plan) (omega (arith, cells-length p plan))
-
-      total-is : totalOf (heard (take (ours .entries) (cellsOf p plan))) ≡ totalOf (figures (map (levelAt p plan (groundMarks plan)) (plan .entries)))
-      total-is =
-          ap (λ (cs : List ℤ). totalOf (heard cs)) all-taken
-          ∙ ap totalOf (cells-heard p plan (groundMarks plan) (plan .entries))
+      ∙ sym (result-is rows)
 
 -- ---- the marks
 

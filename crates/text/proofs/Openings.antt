@@ -63,7 +63,7 @@ module _ (text : List ℕ) where
 
 -- the contents, read into as many counts as there may be segments
 module _ {line before after : List ℕ} (lent : length before ≡ ours .segments) {r : Contents} (e : ContentsRead (ours .entries) line before after r) where
-  contents-are : readAs r after ≡ contentsOf ours line
+  pub contents-are : readAs r after ≡ contentsOf ours line
   contents-are = rw lent at (e .is)
 
   pub body-refused : (xs : List Line) {f : Refusal} → r ≡ C.Refused f → refusedAt f 1 ≡ readBody ours (contentsOf ours line) xs

@@ -58,7 +58,7 @@ train-own t =
     (unless-own (vehiclesKept t) R.Vehicles _ (omega arith) (unless-own (trainsKept t) R.Trains _ (omega arith) (omega arith))))
 
 -- how many lines of each kind are to come, and that a train's line has a segment before it
-abbrev segmentsIn : List Kind → ℕ
+abbrev pub segmentsIn : List Kind → ℕ
 segmentsIn [] = 0
 segmentsIn (segmentKind ∷ ps) = suc (segmentsIn ps)
 segmentsIn (trainKind ∷ ps) = segmentsIn ps
@@ -157,7 +157,7 @@ unfolding kindsOf
 kinds-led [] = tt
 kinds-led (c ∷ cs) = tt
 
-kinds-segments : (cs : List ℕ) → segmentsIn (kindsOf cs) ≡ length cs
+pub kinds-segments : (cs : List ℕ) → segmentsIn (kindsOf cs) ≡ length cs
 unfolding kindsOf
 kinds-segments [] = refl
 kinds-segments (c ∷ cs) = ap suc (trains-segments c (kindsOf cs) ∙ kinds-segments cs)
@@ -188,7 +188,7 @@ counts-long most (pos c ∷ vs) = go (leb c most) (front-long (length vs) c (cou
     go false h = tt
 
 -- what the contents give
-abbrev Given : Limits → Read → Type 0
+abbrev pub Given : Limits → Read → Type 0
 Given l (refused r) = numberOf r ≤ 13
 Given l (counts cs) = (length cs ≤ l .segments) × (sumOfCounts cs ≤ l .entries)
 
@@ -209,7 +209,7 @@ module _ (l : Limits) where
       go true e = (omega arith, within 1 (l .entries) (sumOfCounts cs) e)
       go false e = omega arith
 
-  contents-given : (o : Option (List ℤ)) → Given l (contentsIn l o)
+  pub contents-given : (o : Option (List ℤ)) → Given l (contentsIn l o)
   unfolding numberOf
   contents-given none = omega arith
   contents-given (some []) = omega arith

@@ -16,7 +16,8 @@ use Rattle.study.specs.Plan.{planOf, emptyStudy}
 use Rattle.study.specs.Add.{Limits}
 use Rattle.study.specs.Run.{Addition, step, runFrom, run, listed}
 use Rattle.study.proofs.Listed.{run-listed}
-use Rattle.study.proofs.Runs.{LimitsFit}
+use Rattle.study.proofs.Plans.{PlanHeld, accepted-held}
+use Rattle.study.proofs.Runs.{LimitsFit, run-accepted}
 use Rattle.lines.specs.Lines.{segmentOf, trainOf}
 use Rattle.lines.specs.Contents.{Read, refused, counts, contentsOf}
 use Rattle.text.specs.Text.{Line, ended, unended, linesOf, Kind, segmentKind, trainKind, kindsOf, segmentAdds, trainAdds, addLine, refusedAt, after, readLines, readBody, readFrom, readText}
@@ -152,6 +153,10 @@ text-is-run l text = go (readText l text .check) refl
     go Accepted e = (additionsOf l text, accepted-text-is-run l text e)
     go (Refused f) e = ([], refused-text-is-empty l text f e)
 
--- so listed and added again it is the same
+-- so what its plan holds keeps its lines and the limits
+pub text-held : (l : Limits) → LimitsFit l → (text : List ℕ) → PlanHeld l (planOf (readText l text .study))
+text-held l fit text = let r = text-is-run l text in rw (r .1, run-accepted l fit (r .0)) (accepted-held l (r .0))
+
+-- and listed and added again it is the same
 pub text-listed : (l : Limits) → LimitsFit l → (text : List ℕ) → run l (listed (planOf (readText l text .study))) ≡ readText l text .study
 text-listed l fit text = let r = text-is-run l text in rw (r .1) (run-listed l fit (r .0))
