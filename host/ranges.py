@@ -122,7 +122,7 @@ STATED = {
     ],
     "docs/PLANNER.md": ["the open segment: {figures} numbers", "The {figures} numbers of a segment's line", "The {train_figures} numbers of a train line",
                         "speed; [below {counted}](#trains-that-crawl) it counts as {counted}", "Below {counted} km/h it counts as {counted},",
-                        "more than {segments} segments together with 21, more than {entries} trains' lines together with 22"],
+                        "more than {segments} segments together with 21, more than {entries} train lines together with 22"],
     "docs/RULES.md": [
         "A segment has {figures} figures",
         "A train entry has {train_figures} figures",
@@ -133,7 +133,7 @@ STATED = {
         "the segment count, 1 to {segments}, then each segment's entry count, 0 to {entries} each and 1 to {entries} in all",
         "a {late_segment}th segment",
         "a {late_entry}th train entry",
-        "More than {segments} segments together are refusal 21; then more than {entries} entries together are refusal 22",
+        "If both have more than {segments} segments together, the merge is refused with 21; if not, but more than {entries} entries together, with 22",
     ],
     "docs/TRACE.md": ["At most {bytes:,} bytes, else 12"],
     "docs/DECISIONS.md": ["a text over {bytes:,} bytes"],

@@ -150,10 +150,9 @@ typedef struct {
 /* Refusals. The first line of the text at fault decides. Within a line 12 comes before all else,
  * then the lowest number that applies. A text's refusal comes before 24.
  *
- * railnoise_levels never answers with 20 to 23: they belong to studies that are built addition by addition or
- * of two, and a text that would lead to one of them is refused as 12 or 13. Of the functions of
- * railnoise_requests.h railnoise_entitlement answers with none above 13, and railnoise_merged_levels also with
- * 21 and 22, of two texts together. 20 and 23 come from no function of C; they have names and words here so
+ * railnoise_levels answers with 1 to 13 and 24. Of the functions in railnoise_requests.h, railnoise_entitlement
+ * answers with 1 to 13, and railnoise_merged_levels with 1 to 13, 21, 22 and 24. A single text that would lead
+ * to 20 to 23 is refused as 12 or 13; 20 and 23 come from no function of C, and have names and words here so
  * that every refusal of the product has both. */
 enum {
     RAILNOISE_ANSWERED = 0,

@@ -96,10 +96,10 @@ typedef struct {
 } railnoise_merged_answer;
 
 /* The levels of two drawings of one window as one study: of a terminal, say, the yard and the main line, which
- * two teams draw. The study has all segments and train entries of the first text, then those of the second, in
- * their order, each entry with its own segment. Its levels, close counts and verdicts are those of one text
- * with all the lines, so at most 0.46 dB from the formulas without rounding, as every study's. They are not
- * the levels that the two drawings report by themselves, added: those are rounded once more.
+ * two teams draw. The study holds what the first text has and after it what the second has, every train entry
+ * still at its own segment. Its levels, close counts and verdicts are those of one text with all the lines, so
+ * at most 0.46 dB from the formulas without rounding, as every study's. They are not the levels that the two
+ * drawings report by themselves, added: those are rounded once more.
  *
  * first, second: two study texts with their lengths, as railnoise_levels takes one. Each needs at least one
  *     train entry: a text without one is refused with 13 at line 1, and nothing would be heard of it, so ask

@@ -13,7 +13,7 @@ use Rattle.figures.specs.declared.Check.the-variants.{Accepted, Refused}
 use Rattle.figures.specs.declared.Period.{Period}
 use Rattle.figures.specs.declared.Period.the-variants.{Day, Night}
 use Rattle.figures.specs.Refusal.{checkNumber, firstRefused}
-use Rattle.study.specs.Plan.{Plan, planOf}
+use Rattle.study.specs.Plan.{Plan}
 use Rattle.study.specs.Add.{ours}
 use Rattle.study.proofs.Plans.{accepted-held}
 use Rattle.study.proofs.Runs.{run-accepted}
@@ -36,7 +36,7 @@ use Rattle.merging.proofs.OwnLevels.{own-levels}
 use Rattle.merging.proofs.OwnCounts.{own-close}
 use Rattle.drawings.specs.declared.MergedAnswer.{MergedAnswer}
 use Rattle.drawings.specs.declared.TextLevels.{TextLevels}
-use Rattle.drawings.specs.Drawings.{mergedOf, mergedIn, toldAt, unlessRefused, mergedAnswer, mergedCheck, mergedAnswerNumber, MergedAnswered}
+use Rattle.drawings.specs.Drawings.{mergedOf, mergedPlanIn, toldAt, toldUnless, mergedAnswer, textsCheck, mergedAnswerNumber, MergedAnswered}
 use Rattle.drawings.specs.Private.{Given, TextGives, resultOf, levelsTogether, resultTogether, Together}
 use Rattle.drawings.proofs.Texts.{own-cells}
 
@@ -47,7 +47,7 @@ answer-check Accepted plan m = refl
 answer-check (Refused why) plan m = refl
 
 -- the first of the refusals is told
-first-told : (one two both : Check) (line other : ℕ) (a : Answer) → unlessRefused one 1 line (unlessRefused two 2 other (unlessRefused both 0 0 (toldAt 0 0 a))) .check ≡ firstRefused (firstRefused one (firstRefused two both)) (a .check)
+first-told : (one two both : Check) (line other : ℕ) (a : Answer) → toldUnless one 1 line (toldUnless two 2 other (toldUnless both 0 0 (toldAt 0 0 a))) .check ≡ firstRefused (firstRefused one (firstRefused two both)) (a .check)
 unfolding firstRefused refusedBy
 first-told Accepted Accepted Accepted line other a = refl
 first-told Accepted Accepted (Refused why) line other a = refl
@@ -60,24 +60,24 @@ AsAsked first second before after r = MergedAnswered first second before after r
 
 module _ (first second : List ℕ) where
   -- as many entries as a study may hold, whatever the texts
-  few : length (mergedIn first second .entries) ≤ ours .entries
+  few : length (mergedPlanIn first second .entries) ≤ ours .entries
   few =
       let one = text-is-run ours first in
       let two = text-is-run ours second in
       let both = merge-is-run ours ours-fit (one .0) (two .0) in
       rw (one .1, two .1, both .1, run-accepted ours ours-fit (both .0)) (accepted-held ours (both .0) .total)
 
-  told : (n : ℕ) → mergedAnswer first second n .check ≡ firstRefused (mergedCheck first second) (levelsCheck (mergedIn first second) n)
-  unfolding mergedAnswer mergedCheck
+  told : (n : ℕ) → mergedAnswer first second n .check ≡ firstRefused (textsCheck first second) (levelsCheck (mergedPlanIn first second) n)
+  unfolding mergedAnswer textsCheck
   told n =
-      let plan = mergedIn first second in
+      let plan = mergedPlanIn first second in
       let one = readText ours first in
       let two = readText ours second in
       first-told (one .check) (two .check) (mergedOf first second .check) (one .line) (two .line) (answerBy (levelsCheck plan n) plan (ownMarks plan))
       ∙ ap (firstRefused (firstRefused (one .check) (firstRefused (two .check) (mergedOf first second .check)))) (answer-check (levelsCheck plan n) plan (ownMarks plan))
 
   -- where the merge is accepted, its plan is that of both texts
-  merged-plan : mergedOf first second .check ≡ Accepted → mergedIn first second ≡ joined (planIn first) (planIn second)
+  merged-plan : mergedOf first second .check ≡ Accepted → mergedPlanIn first second ≡ joined (planIn first) (planIn second)
   merged-plan e =
       let one = text-is-run ours first in
       let two = text-is-run ours second in
@@ -96,14 +96,14 @@ module _ (first second : List ℕ) where
         ap₂ (resultOf p) (joined-levels ∙ own-cells p whole) (ap₂ _+_ (a .close p) (b .close p) ∙ sym (own-close p (planIn first) (planIn second) (text-held ours ours-fit first)))
         ∙ sym (result-is p whole rows)
 
-  answered : {before after : List ℤ} {r : MergedAnswer} → r ≡ mergedAnswer first second (length before) → after ≡ cellsWith (mergedCheck first second) (mergedIn first second) before → AsAsked first second before after r
+  answered : {before after : List ℤ} {r : MergedAnswer} → r ≡ mergedAnswer first second (length before) → after ≡ cellsWith (textsCheck first second) (mergedPlanIn first second) before → AsAsked first second before after r
   unfolding mergedAnswerNumber
   answered {before} e cells =
-      (record { answer = e; cells = cells; allowed = own-allowed (mergedIn first second) few }, ap (λ (a : MergedAnswer). checkNumber (a .check)) e ∙ ap checkNumber (told (length before)))
+      (record { answer = e; cells = cells; allowed = own-allowed (mergedPlanIn first second) few }, ap (λ (a : MergedAnswer). checkNumber (a .check)) e ∙ ap checkNumber (told (length before)))
 
   module _ {own : List ℤ} {one : TextLevels} (a : TextGives first own one) where
     pub first-refused : {why : Refusal} {before after : List ℤ} {r : MergedAnswer} → one .check ≡ Refused why → r ≡ toldAt 1 (one .line) (refusedBy why) → after ≡ before → AsAsked first second before after r
-    unfolding mergedAnswer mergedCheck firstRefused cellsWith
+    unfolding mergedAnswer textsCheck firstRefused cellsWith
     first-refused e is same =
         let f = sym (a .check) ∙ e in
         answered (is ∙ rw (a .line, f)) (same ∙ rw f)
@@ -113,7 +113,7 @@ module _ (first second : List ℕ) where
       good = sym (a .check) ∙ first-good
 
       pub second-refused : {why : Refusal} {before after : List ℤ} {r : MergedAnswer} → two .check ≡ Refused why → r ≡ toldAt 2 (two .line) (refusedBy why) → after ≡ before → AsAsked first second before after r
-      unfolding mergedAnswer mergedCheck firstRefused cellsWith
+      unfolding mergedAnswer textsCheck firstRefused cellsWith
       second-refused e is same =
           let f = sym (b .check) ∙ e in
           answered (is ∙ rw (b .line, good, f)) (same ∙ rw (good, f))
@@ -133,7 +133,7 @@ module _ (first second : List ℕ) where
         both-check = merged-check ours _ _ ∙ sym (checked ∙ rw (own-given .segments, others-given .segments, own-given .entries, others-given .entries) refl)
 
         pub merge-refused : {why : Refusal} {before after : List ℤ} {r : MergedAnswer} → both ≡ Refused why → r ≡ toldAt 0 0 (refusedBy why) → after ≡ before → AsAsked first second before after r
-        unfolding mergedAnswer mergedCheck firstRefused cellsWith
+        unfolding mergedAnswer textsCheck firstRefused cellsWith
         merge-refused e is same =
             let f = both-check ∙ e in
             answered (is ∙ rw (good, also-good, f)) (same ∙ rw (good, also-good, f))
@@ -145,7 +145,7 @@ module _ (first second : List ℕ) where
           abbrev plan : Plan
           plan = joined (planIn first) (planIn second)
 
-          plan-is : mergedIn first second ≡ plan
+          plan-is : mergedPlanIn first second ≡ plan
           plan-is = merged-plan fits
 
           rows : length (plan .entries) ≡ one .entries + two .entries
@@ -155,13 +155,13 @@ module _ (first second : List ℕ) where
           some z = omega (arith, rows, own-given .entries, accepted-text-entry ours ours-fit first good)
 
           pub few-refused : {before after : List ℤ} {r : MergedAnswer} → length before < cellsNeeded (one .entries + two .entries) → r ≡ toldAt 0 0 (refusedBy FewCells) → after ≡ before → AsAsked first second before after r
-          unfolding mergedAnswer mergedCheck firstRefused cellsWith cellsBy laid answerOf levelsCheck
+          unfolding mergedAnswer textsCheck firstRefused cellsWith cellsBy laid answerOf levelsCheck
           few-refused {before} h is same =
               let check = few-cells (length (plan .entries)) (cellsNeeded (length (plan .entries))) (length before) some (omega (arith, rows)) in
               answered (is ∙ rw (good, also-good, fits, plan-is, check)) (same ∙ rw (good, also-good, fits, plan-is, check))
 
           pub levels-told : {before after : List ℤ} {answer : Answer} {r : MergedAnswer} → cellsNeeded (one .entries + two .entries) ≤ length before → Together one two own others before after answer → r ≡ toldAt 0 0 answer → AsAsked first second before after r
-          unfolding mergedAnswer mergedCheck firstRefused cellsWith cellsBy levelsCheck
+          unfolding mergedAnswer textsCheck firstRefused cellsWith cellsBy levelsCheck
           levels-told {before} h w is =
               let check = enough-cells (length (plan .entries)) (cellsNeeded (length (plan .entries))) (length before) some (omega (arith, rows)) in
               answered (is ∙ ap (toldAt 0 0) (w .answer) ∙ rw (good, also-good, fits, plan-is, check) (ap₂ (λ (d n : PeriodResult). toldAt 0 0 (answerOf Accepted d n)) (results-are Day) (results-are Night)))

@@ -1,7 +1,7 @@
 -- Which refusals two texts get, and that they are answered as one text of both.
 -- Assumes nothing.
 use mathlib.Core.Path.{_≡_, refl, sym, ap, _∙_}
-use mathlib.Core.Logic.{inl, inr}
+use mathlib.Core.Logic.{_⊎_, inl, inr}
 use mathlib.Core.Bool.{Bool, true, false}
 use mathlib.Core.List.{List}
 use Prim.Native.Nat.{ℕ, _+_, _≤_, _<_}
@@ -19,7 +19,6 @@ use Rattle.study.specs.Plan.{Plan}
 use Rattle.study.specs.Add.{ours}
 use Rattle.study.proofs.Plans.{accepted-held}
 use Rattle.study.proofs.Runs.{run-accepted}
-use Rattle.request.specs.declared.Answer.{Answer}
 use Rattle.request.specs.Levels.{ownMarks}
 use Rattle.request.specs.Request.{requestCheck, levelsCheck, refusedBy}
 use Rattle.request.proofs.Demand3.{ours-fit}
@@ -34,9 +33,9 @@ use Rattle.merging.specs.Joined.{joined}
 use Rattle.merging.proofs.Joining.{Room, joined-count, joined-total}
 use Rattle.merging.proofs.Merges.{merged-check, room-accepts, made-joined}
 use Rattle.drawings.specs.declared.MergedAnswer.{MergedAnswer}
-use Rattle.drawings.specs.Drawings.{mergedOf, mergedIn, toldAt, unlessRefused, mergedAnswer, mergedCheck}
+use Rattle.drawings.specs.Drawings.{mergedOf, mergedPlanIn, mergedAnswer, textsCheck}
 use Rattle.drawings.proofs.Answers.{answer-check}
-use Rattle.drawings.specs.Laws.{OfBoth, TypedWhole, SameAnswer, MergedTexts}
+use Rattle.drawings.specs.Laws.{OfBothTexts, FirstTold, SecondTold, NoneTold, WholeText, SameAnswer, MergedTexts}
 
 -- ---- sizes of a text's study
 
@@ -57,7 +56,7 @@ text-few text =
 
 module _ (first second : List ℕ) where
   -- within the limits it holds the lists joined
-  lists-joined : mergeCheck ours (planIn first) (planIn second) ≡ Accepted → mergedIn first second ≡ joined (planIn first) (planIn second)
+  lists-joined : mergeCheck ours (planIn first) (planIn second) ≡ Accepted → mergedPlanIn first second ≡ joined (planIn first) (planIn second)
   lists-joined e =
       let one = text-is-run ours first in
       let two = text-is-run ours second in
@@ -68,62 +67,70 @@ module _ (first second : List ℕ) where
 
 -- ---- which refusals come
 
-limits-of : (segments entries : ℕ) → OfBoth (limitsCheck ours segments entries)
+limits-of : (segments entries : ℕ) → OfBothTexts (limitsCheck ours segments entries)
 unfolding limitsCheck unless
 limits-of segments entries = go (leb segments (ours .segments)) (leb entries (ours .entries))
   where
-    go : (few : Bool) (fewer : Bool) → OfBoth (unless few SegmentLimit (unless fewer EntryLimit Accepted))
+    go : (few : Bool) (fewer : Bool) → OfBothTexts (unless few SegmentLimit (unless fewer EntryLimit Accepted))
     go false fewer = inr (inl refl)
     go true false = inr (inr (inl refl))
     go true true = inl refl
 
-request-of : (plan : Plan) (n : ℕ) → 0 < length (plan .entries) → OfBoth (levelsCheck plan n)
+request-of : (plan : Plan) (n : ℕ) → 0 < length (plan .entries) → OfBothTexts (levelsCheck plan n)
 unfolding levelsCheck requestCheck unless
 request-of plan n some = rw (lt-ltb 0 (length (plan .entries)) some) (go (leb (length (plan .entries) + length (plan .entries)) n))
   where
-    go : (enough : Bool) → OfBoth (unless enough FewCells Accepted)
+    go : (enough : Bool) → OfBothTexts (unless enough FewCells Accepted)
     go true = inl refl
     go false = inr (inr (inr refl))
 
--- in the order of the request
-module _ (line other : ℕ) (a : Answer) where
-  abbrev told : Check → Check → Check → MergedAnswer
-  told one two both = unlessRefused one 1 line (unlessRefused two 2 other (unlessRefused both 0 0 (toldAt 0 0 a)))
-
-  told-own : (one two both : Check) → checkNumber one ≤ 13 → checkNumber two ≤ 13 → (told one two both .text ≡ 0 → ⊥) → (why : Refusal) × ((told one two both .check ≡ Refused why) × (numberOf why ≤ 13))
-  unfolding checkNumber refusedBy
-  told-own (Refused why) two both h k n = (why, (refl, h))
-  told-own Accepted (Refused why) both h k n = (why, (refl, k))
-  told-own Accepted Accepted (Refused why) h k n = absurd (n refl)
-  told-own Accepted Accepted Accepted h k n = absurd (n refl)
-
-  told-both : (one two both : Check) → OfBoth both → (one ≡ Accepted → two ≡ Accepted → both ≡ Accepted → OfBoth (a .check)) → told one two both .text ≡ 0 → OfBoth (told one two both .check)
-  unfolding refusedBy
-  told-both (Refused why) two both o f n = absurd (omega arith)
-  told-both Accepted (Refused why) both o f n = absurd (omega arith)
-  told-both Accepted Accepted (Refused why) o f n = o
-  told-both Accepted Accepted Accepted o f n = f refl refl refl
-
 module _ (first second : List ℕ) (n : ℕ) where
   abbrev plan : Plan
-  plan = mergedIn first second
+  plan = mergedPlanIn first second
 
-  text-told : (mergedAnswer first second n .text ≡ 0 → ⊥) → (why : Refusal) × ((mergedAnswer first second n .check ≡ Refused why) × (numberOf why ≤ 13))
-  unfolding mergedAnswer
-  text-told = told-own _ _ _ (readText ours first .check) (readText ours second .check) (mergedOf first second .check) (text-refusal-is-own ours first) (text-refusal-is-own ours second)
+  abbrev answer : MergedAnswer
+  answer = mergedAnswer first second n
 
   some-entry : readText ours first .check ≡ Accepted → mergedOf first second .check ≡ Accepted → 0 < length (plan .entries)
   some-entry ok e = rw (lists-joined first second (sym (check-is first second) ∙ e)) (omega (arith, joined-total (planIn first) (planIn second), text-entry first ok))
 
-  none-told : mergedAnswer first second n .text ≡ 0 → OfBoth (mergedAnswer first second n .check)
-  unfolding mergedAnswer mergeCheck
-  none-told =
-      told-both _ _ _ (readText ours first .check) (readText ours second .check) (mergedOf first second .check) (rw (check-is first second) (limits-of _ _))
-      (λ ok also e. rw (answer-check (levelsCheck plan n) plan (ownMarks plan)) (request-of plan n (some-entry ok e)))
+  -- a text's own refusal
+  own-of : (text : List ℕ) (why : Refusal) → readText ours text .check ≡ Refused why → numberOf why ≤ 13
+  unfolding checkNumber
+  own-of text why e = rw e at (text-refusal-is-own ours text)
+
+  first-told : (why : Refusal) → readText ours first .check ≡ Refused why → FirstTold first answer
+  unfolding mergedAnswer refusedBy
+  first-told why e = rw e (record { told = refl; check = sym e; own = (why, (refl, own-of first why e)); line = refl })
+
+  module _ (ok : readText ours first .check ≡ Accepted) where
+    second-told : (why : Refusal) → readText ours second .check ≡ Refused why → SecondTold first second answer
+    unfolding mergedAnswer refusedBy
+    second-told why e = rw (ok, e) (record { told = refl; accepted = ok; check = sym e; own = (why, (refl, own-of second why e)); line = refl })
+
+    module _ (also : readText ours second .check ≡ Accepted) where
+      both-of : OfBothTexts (mergedOf first second .check)
+      unfolding mergeCheck
+      both-of = rw (check-is first second) (limits-of _ _)
+
+      none-told : (both : Check) → mergedOf first second .check ≡ both → NoneTold first second answer
+      unfolding mergedAnswer refusedBy
+      none-told (Refused why) e = rw (ok, also, e) (record { told = refl; one = ok; two = also; check = rw e at both-of; line = refl })
+      none-told Accepted e =
+          rw (ok, also, e)
+          (record { told = refl; one = ok; two = also; check = rw (answer-check (levelsCheck plan n) plan (ownMarks plan)) (request-of plan n (some-entry ok e)); line = refl })
+
+  told : FirstTold first answer ⊎ (SecondTold first second answer ⊎ NoneTold first second answer)
+  told = go (readText ours first .check) refl (readText ours second .check) refl
+    where
+      go : (one : Check) → readText ours first .check ≡ one → (two : Check) → readText ours second .check ≡ two → FirstTold first answer ⊎ (SecondTold first second answer ⊎ NoneTold first second answer)
+      go (Refused why) e two f = inl (first-told why e)
+      go Accepted e (Refused why) f = inr (inl (second-told e why f))
+      go Accepted e Accepted f = inr (inr (none-told e f (mergedOf first second .check) refl))
 
 -- ---- typed whole
 
-module _ (first second whole : List ℕ) (w : TypedWhole first second whole) where
+module _ (first second whole : List ℕ) (w : WholeText first second whole) where
   room : Room ours (planIn first) (planIn second)
   room =
       let few = text-few whole in
@@ -137,17 +144,17 @@ module _ (first second whole : List ℕ) (w : TypedWhole first second whole) whe
   accepted : mergedOf first second .check ≡ Accepted
   accepted = check-is first second ∙ within
 
-  holds : mergedIn first second ≡ planIn whole
+  holds : mergedPlanIn first second ≡ planIn whole
   holds = lists-joined first second within ∙ sym (w .lists)
 
   whole-answer : (n : ℕ) → SameAnswer (mergedAnswer first second n) (textAnswer whole n)
   unfolding mergedAnswer textAnswer answerWith
   whole-answer n =
-      rw (w .one, w .two, accepted, holds, w .all, accepted-line ours whole (w .all)) (record { check = refl; line = refl; day = refl; night = refl })
+      rw (w .one, w .two, accepted, holds, w .all, accepted-line ours whole (w .all)) (record { text = refl; check = refl; line = refl; day = refl; night = refl })
 
-  whole-cells : (cells : List ℤ) → cellsWith (mergedCheck first second) (mergedIn first second) cells ≡ cellsWith (readText ours whole .check) (planIn whole) cells
-  unfolding mergedCheck firstRefused
+  whole-cells : (cells : List ℤ) → cellsWith (textsCheck first second) (mergedPlanIn first second) cells ≡ cellsWith (readText ours whole .check) (planIn whole) cells
+  unfolding textsCheck firstRefused
   whole-cells cells = rw (w .one, w .two, accepted, holds, w .all) refl
 
 pub merged-texts : MergedTexts
-merged-texts = record { text-told = text-told; none-told = none-told; whole-answer = whole-answer; whole-cells = whole-cells }
+merged-texts = record { told = told; whole-answer = whole-answer; whole-cells = whole-cells }

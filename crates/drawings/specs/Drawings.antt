@@ -19,42 +19,42 @@ use Rattle.text.specs.Answer.{cellsWith}
 use Rattle.drawings.specs.declared.MergedAnswer.{MergedAnswer}
 use Rattle.merging.specs.Merge.{merged}
 
--- the study of both texts, and what it holds
+-- the merge of both texts' studies, and what its study holds; where a text is refused, neither is looked at
 abbrev pub mergedOf : List ℕ → List ℕ → Added
 mergedOf first second = merged ours (readText ours first .study) (readText ours second .study)
 
-abbrev pub mergedIn : List ℕ → List ℕ → Plan
-mergedIn first second = planOf (mergedOf first second .study)
+abbrev pub mergedPlanIn : List ℕ → List ℕ → Plan
+mergedPlanIn first second = planOf (mergedOf first second .study)
 
 -- an answer with the text that is at fault, 1 or 2, and its line; both 0 where none is
 abbrev pub toldAt : ℕ → ℕ → Answer → MergedAnswer
 toldAt text line a = record { check = a .check; text = text; line = line; day = a .day; night = a .night }
 
 -- a refusal ends the request; else what comes after it
-abbrev pub unlessRefused : Check → ℕ → ℕ → MergedAnswer → MergedAnswer
-unlessRefused Accepted text line rest = rest
-unlessRefused (Refused why) text line rest = toldAt text line (refusedBy why)
+abbrev pub toldUnless : Check → ℕ → ℕ → MergedAnswer → MergedAnswer
+toldUnless Accepted text line rest = rest
+toldUnless (Refused why) text line rest = toldAt text line (refusedBy why)
 
 unfoldable pub mergedAnswer : List ℕ → List ℕ → ℕ → MergedAnswer
 mergedAnswer first second cells =
     let one = readText ours first in
     let two = readText ours second in
-    let plan = mergedIn first second in
-    unlessRefused (one .check) 1 (one .line)
-    (unlessRefused (two .check) 2 (two .line)
-    (unlessRefused (mergedOf first second .check) 0 0
+    let plan = mergedPlanIn first second in
+    toldUnless (one .check) 1 (one .line)
+    (toldUnless (two .check) 2 (two .line)
+    (toldUnless (mergedOf first second .check) 0 0
     (toldAt 0 0 (answerBy (levelsCheck plan cells) plan (ownMarks plan)))))
 
 -- the first refusal before the request for levels
-unfoldable pub mergedCheck : List ℕ → List ℕ → Check
-mergedCheck first second = firstRefused (readText ours first .check) (firstRefused (readText ours second .check) (mergedOf first second .check))
+unfoldable pub textsCheck : List ℕ → List ℕ → Check
+textsCheck first second = firstRefused (readText ours first .check) (firstRefused (readText ours second .check) (mergedOf first second .check))
 
 -- the number of the whole answer: the first refusal of all
 unfoldable pub mergedAnswerNumber : List ℕ → List ℕ → ℕ → ℕ
-mergedAnswerNumber first second cells = checkNumber (firstRefused (mergedCheck first second) (levelsCheck (mergedIn first second) cells))
+mergedAnswerNumber first second cells = checkNumber (firstRefused (textsCheck first second) (levelsCheck (mergedPlanIn first second) cells))
 
 -- the whole of it: by the program's own marks, and 01 allows these
 pub record MergedAnswered (first second : List ℕ) (before after : List ℤ) (r : MergedAnswer) : Type 0 where
   pub answer : r ≡ mergedAnswer first second (length before)
-  pub cells : after ≡ cellsWith (mergedCheck first second) (mergedIn first second) before
-  pub allowed : MarksAllowed (mergedIn first second) (ownMarks (mergedIn first second))
+  pub cells : after ≡ cellsWith (textsCheck first second) (mergedPlanIn first second) before
+  pub allowed : MarksAllowed (mergedPlanIn first second) (ownMarks (mergedPlanIn first second))

@@ -16,14 +16,37 @@ use Rattle.text.specs.Text.{readText}
 use Rattle.text.specs.Answer.{planIn, textAnswer, cellsWith}
 use Rattle.merging.specs.Joined.{joined}
 use Rattle.drawings.specs.declared.MergedAnswer.{MergedAnswer}
-use Rattle.drawings.specs.Drawings.{mergedIn, mergedAnswer, mergedCheck}
+use Rattle.drawings.specs.Drawings.{mergedPlanIn, mergedAnswer, textsCheck}
 
--- answered, or 21, 22 or 24
-abbrev pub OfBoth : Check → Type 0
-OfBoth c = (c ≡ Accepted) ⊎ ((c ≡ Refused SegmentLimit) ⊎ ((c ≡ Refused EntryLimit) ⊎ (c ≡ Refused FewCells)))
+-- answered, or 21, 22 or 24: the refusals of both texts together
+abbrev pub OfBothTexts : Check → Type 0
+OfBothTexts c = (c ≡ Accepted) ⊎ ((c ≡ Refused SegmentLimit) ⊎ ((c ≡ Refused EntryLimit) ⊎ (c ≡ Refused FewCells)))
+
+-- where the first text is told, it is refused, with this refusal at this line
+pub record FirstTold (first : List ℕ) (r : MergedAnswer) : Type 0 where
+  pub told : r .text ≡ 1
+  pub check : r .check ≡ readText ours first .check
+  pub own : (why : Refusal) × ((r .check ≡ Refused why) × (numberOf why ≤ 13))
+  pub line : r .line ≡ readText ours first .line
+
+-- where the second is, the first is accepted and the second refused
+pub record SecondTold (first second : List ℕ) (r : MergedAnswer) : Type 0 where
+  pub told : r .text ≡ 2
+  pub accepted : readText ours first .check ≡ Accepted
+  pub check : r .check ≡ readText ours second .check
+  pub own : (why : Refusal) × ((r .check ≡ Refused why) × (numberOf why ≤ 13))
+  pub line : r .line ≡ readText ours second .line
+
+-- where none is, both are accepted: so 20 and 23 never come
+pub record NoneTold (first second : List ℕ) (r : MergedAnswer) : Type 0 where
+  pub told : r .text ≡ 0
+  pub one : readText ours first .check ≡ Accepted
+  pub two : readText ours second .check ≡ Accepted
+  pub check : OfBothTexts (r .check)
+  pub line : r .line ≡ 0
 
 -- a third text is accepted and has the segments and entries of both, joined
-pub record TypedWhole (first second whole : List ℕ) : Type 0 where
+pub record WholeText (first second whole : List ℕ) : Type 0 where
   pub one : readText ours first .check ≡ Accepted
   pub two : readText ours second .check ≡ Accepted
   pub all : readText ours whole .check ≡ Accepted
@@ -31,16 +54,16 @@ pub record TypedWhole (first second whole : List ℕ) : Type 0 where
 
 -- what is answered of two texts, and of one
 pub record SameAnswer (r : MergedAnswer) (t : TextAnswer) : Type 0 where
+  pub text : r .text ≡ 0
   pub check : r .check ≡ t .check
   pub line : r .line ≡ t .line
   pub day : r .day ≡ t .day
   pub night : r .night ≡ t .night
 
 pub record MergedTexts : Type 0 where
-  -- where a text is told, the refusal is that text's own, 1 to 13; where none is, only 21, 22 and 24 are given: so 20 and 23 never come
-  pub text-told : (first second : List ℕ) (cells : ℕ) → let r = mergedAnswer first second cells in (r .text ≡ 0 → ⊥) → (why : Refusal) × ((r .check ≡ Refused why) × (numberOf why ≤ 13))
-  pub none-told : (first second : List ℕ) (cells : ℕ) → let r = mergedAnswer first second cells in r .text ≡ 0 → OfBoth (r .check)
+  -- every answer tells the first text, the second, or none
+  pub told : (first second : List ℕ) (cells : ℕ) → let r = mergedAnswer first second cells in FirstTold first r ⊎ (SecondTold first second r ⊎ NoneTold first second r)
   -- "as if it had been typed whole": the answer and the cells are those of the one text
-  pub whole-answer : (first second whole : List ℕ) → TypedWhole first second whole → (cells : ℕ) → SameAnswer (mergedAnswer first second cells) (textAnswer whole cells)
-  pub whole-cells : (first second whole : List ℕ) → TypedWhole first second whole → (cells : List ℤ) →
-      cellsWith (mergedCheck first second) (mergedIn first second) cells ≡ cellsWith (readText ours whole .check) (planIn whole) cells
+  pub whole-answer : (first second whole : List ℕ) → WholeText first second whole → (cells : ℕ) → SameAnswer (mergedAnswer first second cells) (textAnswer whole cells)
+  pub whole-cells : (first second whole : List ℕ) → WholeText first second whole → (cells : List ℤ) →
+      cellsWith (textsCheck first second) (mergedPlanIn first second) cells ≡ cellsWith (readText ours whole .check) (planIn whole) cells

@@ -3,7 +3,6 @@ ghost use mathlib.Core.Path.{_≡_};
 ghost use mathlib.Core.List.{_++_};
 ghost use Prim.Native.Nat.{_+_, _-_, _≤_};
 ghost use lib.ListN.{length};
-ghost use lib.Seq.{paste};
 ghost use Rattle.figures.specs.Refusal.{checkNumber};
 ghost use Rattle.study.specs.Add.{ours};
 ghost use Rattle.request.specs.Request.{cellsNeeded, refusedBy};
@@ -22,6 +21,7 @@ use request::MOST_CELLS;
 use request::PeriodResult;
 use request::is_met;
 use request::refusal_answer;
+use request::write_levels;
 use study::MOST_ENTRIES;
 use study::MOST_SEGMENTS;
 use text::text_levels;
@@ -138,18 +138,6 @@ fn levels_in(text: &[u8], cells: &mut [i32]) -> TextLevels
     }
 }
 
-// Writes the levels into the cells from a place on.
-fn write(levels: &[i32], cells: &mut [i32], at: usize)
-    requires { ⌜ at + length (now levels) ≤ length (now cells) ⌝ }
-    ensures { λ _. ⌜ now (cells .exit) ≡ paste (now (cells .entry)) at (now (levels .entry)) (length (now (levels .entry))) ⌝ }
-{
-    let mut i: usize = 0;
-    while i < levels.len() {
-        cells[at + i] = levels[i];
-        i += 1;
-    }
-}
-
 // A period of both texts: its levels in the cells from a place on, and its result.
 fn period_in(
     period: Period,
@@ -162,9 +150,9 @@ fn period_in(
     requires { ⌜ (at + (length (now own) + length (now others)) ≤ length (now cells)) × (close ≤ mostClose) ⌝ }
     ensures { λ r. ⌜ PeriodLaid period (now (own .entry) ++ now (others .entry)) close at (now (cells .entry)) (now (cells .exit)) r ⌝ }
 {
-    write(own, cells, at);
+    write_levels(own, cells, at);
     let next = at + own.len();
-    write(others, cells, next);
+    write_levels(others, cells, next);
     let end = next + others.len();
     let total = energy::total_of(&cells[at..end]);
     let level = total.level;

@@ -15,8 +15,9 @@ use Rattle.merging.specs.Merge.{mergeCheck}
 use Rattle.merging.specs.Joined.{mergedPlan}
 use Rattle.merging.specs.Laws.{MergeLaws, AccurateMerges, MergedDemand3}
 use Rattle.merging.proofs.Checks.{segments-over, entries-over, both-within, twenty-one, twenty-two}
-use Rattle.merging.proofs.Merges.{merged-check, given-back, lists, is-run, is-whole, merge-is-run, with-empty, to-empty, last-accepted, associative}
+use Rattle.merging.proofs.Merges.{merged-check, given-back, lists, is-run, is-run-of-both, is-whole, merge-is-run, with-empty, to-empty, associative}
 use Rattle.merging.proofs.OwnLevels.{own-levels, own-fences}
+use Rattle.merging.proofs.OwnResults.{own-result, second-unheard, first-unheard}
 
 pub laws : (l : Limits) → LimitsFit l → MergeLaws l
 unfolding mergeCheck checkNumber numberOf
@@ -30,14 +31,18 @@ laws l fit =
       given-back = given-back l;
       lists = lists l fit;
       is-run = is-run l fit;
+      is-run-of-both = is-run-of-both l fit;
       is-whole = is-whole l fit;
       answered-whole = λ xs ys e before after r.
           (subst (λ (st : Study). Answered st before after r) (is-whole l fit xs ys e), subst (λ (st : Study). Answered st before after r) (sym (is-whole l fit xs ys e)));
       own-levels = λ p xs ys. own-levels (accepted l xs) (accepted l ys) p (accepted-held l xs);
+      own-result = λ p xs ys. own-result p (accepted l xs) (accepted l ys) (accepted-held l xs);
+      second-unheard = λ p xs ys. second-unheard p (accepted l xs) (accepted l ys) (accepted-held l xs);
+      first-unheard = λ p xs ys. first-unheard p (accepted l xs) (accepted l ys) (accepted-held l xs);
       own-fences = λ p xs ys. own-fences (accepted l xs) (accepted l ys) p (accepted-held l xs);
       with-empty = with-empty l fit;
       to-empty = to-empty l fit;
-      associative = λ xs ys zs e f. (last-accepted l fit xs ys zs e f, associative l fit xs ys zs e f);
+      associative = associative l fit;
     }
 
 pub merge-laws : MergeLaws ours

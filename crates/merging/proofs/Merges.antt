@@ -18,7 +18,7 @@ use Rattle.study.proofs.Runs.{LimitsFit, run-sized, plan-by, from-plan, run-acc
 use Rattle.study.proofs.Listed.{listed-accepted, listed-all, run-listed}
 use Rattle.merging.specs.Merge.{mergeCheck, merged}
 use Rattle.merging.specs.Joined.{joined, mergedPlan}
-use Rattle.merging.specs.Laws.{typedWhole}
+use Rattle.merging.specs.Laws.{typedWhole, FitThree, Associates}
 use Rattle.merging.proofs.Checks.{both-within, within}
 use Rattle.merging.proofs.Joining.{joined-count, joined-total, joined-nothing, Room, join-all, none-refused-after}
 
@@ -89,12 +89,14 @@ module _ (l : Limits) (fit : LimitsFit l) where
     is-run e =
         ap (λ (a : Added). a .study) (taken-in l (run l xs) (run l ys) e) ∙ run-append l emptyStudy xs (listed (planOf (run l ys))) ∙ ap (λ (zs : List Addition). run l (xs ++ zs)) listed-second
 
+    pub is-run-of-both : listed (accepted l ys) ≡ ys → both .check ≡ Accepted → both .study ≡ run l (xs ++ ys)
+    is-run-of-both none e = is-run e ∙ ap (λ (zs : List Addition). run l (xs ++ zs)) none
+
+    -- what its study lists, added again, makes it
     pub is-whole : both .check ≡ Accepted → both .study ≡ run l (typedWhole l xs ys)
-    unfolding run
     is-whole e =
-        let zs = listed (accepted l ys) in
-        let first : run l xs ≡ run l (listed (accepted l xs)) = sym (run-listed l fit xs) ∙ ap (λ (p : Plan). run l (listed p)) (run-accepted l fit xs) in
-        is-run e ∙ sym (run-append l emptyStudy xs zs) ∙ ap (λ (st : Study). runFrom l st zs) first ∙ run-append l emptyStudy (listed (accepted l xs)) zs
+        let zs = xs ++ listed (accepted l ys) in
+        is-run e ∙ sym (run-listed l fit zs) ∙ ap (λ (p : Plan). run l (listed p)) (ap planOf (sym (is-run e)) ∙ lists-joined e)
 
     -- refused or not, it is the study of a list of additions
     pub merge-is-run : (zs : List Addition) × (both .study ≡ run l zs)
@@ -135,7 +137,7 @@ module _ (l : Limits) (fit : LimitsFit l) where
       ∙ listed-all l only a (accepted-held l xs)
       ∙ ap (λ (zs : List Addition). listed a ++ zs) (ap (λ (p : Plan). acceptedOnly l p only) (sym (joined-nothing a)) ∙ none-refused-after l a ys emptyPlan room ∙ sym (listed-accepted l ys))
 
-  module _ (xs ys zs : List Addition) (e : both xs ys .check ≡ Accepted) (f : merged l (both xs ys .study) (run l zs) .check ≡ Accepted) where
+  module _ (xs ys zs : List Addition) (few : FitThree l xs ys zs) where
     abbrev a : Plan
     a = accepted l xs
 
@@ -145,37 +147,36 @@ module _ (l : Limits) (fit : LimitsFit l) where
     abbrev c : Plan
     c = accepted l zs
 
-    room-both : Room l a b
-    room-both = room-of l a b (sym (check-is xs ys) ∙ e)
-
-    room-all : Room l (joined a b) c
-    room-all = room-of l (joined a b) c (ap₂ (mergeCheck l) (sym (lists-joined xs ys e)) (sym (run-accepted l fit zs)) ∙ sym (merged-check l (both xs ys .study) (run l zs)) ∙ f)
-
     room-last : Room l b c
-    room-last = record { segments = omega (arith, room-all, joined-count a b); entries = omega (arith, room-all, joined-total a b) }
+    room-last = record { segments = omega arith; entries = omega arith }
 
-    room-after : Room l a (joined b c)
-    room-after =
-        record {
-          segments = omega (arith, room-all, joined-count a b, joined-count b c);
-          entries = omega (arith, room-all, joined-total a b, joined-total b c);
-        }
+    first-accepted : both xs ys .check ≡ Accepted
+    first-accepted = check-is xs ys ∙ room-accepts l a b (record { segments = omega arith; entries = omega arith })
 
-    pub last-accepted : both ys zs .check ≡ Accepted
+    last-accepted : both ys zs .check ≡ Accepted
     last-accepted = check-is ys zs ∙ room-accepts l b c room-last
+
+    all-accepted : merged l (both xs ys .study) (run l zs) .check ≡ Accepted
+    all-accepted =
+        merged-check l (both xs ys .study) (run l zs)
+        ∙ ap₂ (mergeCheck l) (lists-joined xs ys first-accepted) (run-accepted l fit zs)
+        ∙ room-accepts l (joined a b) c (record { segments = omega (arith, joined-count a b); entries = omega (arith, joined-total a b) })
 
     after-accepted : merged l (run l xs) (both ys zs .study) .check ≡ Accepted
     after-accepted =
         merged-check l (run l xs) (both ys zs .study)
         ∙ ap₂ (mergeCheck l) (run-accepted l fit xs) (lists-joined ys zs last-accepted)
-        ∙ room-accepts l a (joined b c) room-after
+        ∙ room-accepts l a (joined b c) (record { segments = omega (arith, joined-count b c); entries = omega (arith, joined-total b c) })
 
-    pub associative : merged l (run l xs) (both ys zs .study) ≡ merged l (both xs ys .study) (run l zs)
-    associative =
+    either-first : merged l (run l xs) (both ys zs .study) ≡ merged l (both xs ys .study) (run l zs)
+    either-first =
         let st = run l xs in
         let left = ap listed (lists-joined ys zs last-accepted) ∙ listed-both ys zs room-last in
-        let first = ap (λ (x : Added). x .study) (taken-in l st (run l ys) e) ∙ ap (runFrom l st) (listed-second xs ys) in
+        let first = ap (λ (x : Added). x .study) (taken-in l st (run l ys) first-accepted) ∙ ap (runFrom l st) (listed-second xs ys) in
         taken-in l st (both ys zs .study) after-accepted
         ∙ ap (λ (x : Study). record { check = Accepted; study = x })
         (ap (runFrom l st) left ∙ sym (run-append l st (listed b) (listed c)) ∙ ap₂ (runFrom l) (sym first) (sym (listed-second xs zs)))
-        ∙ sym (taken-in l (both xs ys .study) (run l zs) f)
+        ∙ sym (taken-in l (both xs ys .study) (run l zs) all-accepted)
+
+    pub associative : Associates l (run l xs) (run l ys) (run l zs)
+    associative = record { first = first-accepted; last = last-accepted; all = all-accepted; same = either-first }

@@ -29,12 +29,12 @@ use Rattle.merging.specs.Joined.{mergedPlan}
 use Rattle.merging.proofs.Joining.{joined-count, joined-total}
 use Rattle.merging.proofs.Merges.{merged-check, room-accepts, lists}
 use Rattle.merging.proofs.Laws.{merged-demand-3}
-use Rattle.drawings.specs.Drawings.{mergedOf, mergedIn, toldAt, mergedAnswer, mergedCheck}
+use Rattle.drawings.specs.Drawings.{mergedOf, mergedPlanIn, toldAt, mergedAnswer, textsCheck}
 use Rattle.c_values.specs.Values.{exportedPeriod}
 use Rattle.c_values.proofs.Accuracy.{exported-accurate}
 use Rattle.railnoise_requests_c.specs.declared.RailnoiseMergedAnswer.{RailnoiseMergedAnswer}
 use Rattle.railnoise_requests_c.specs.Merged.{exportedMerged, MergedCalled}
-use Rattle.railnoise_requests_c.specs.Accuracy.{bothListed, mergedPeriodIn, MergedAccurate, MergedCallAccurate}
+use Rattle.railnoise_requests_c.specs.Accuracy.{bothIn, mergedPeriodIn, MergedAccurate, MergedCallAccurate}
 
 period-exported : (p : Period) (a : Answer) → mergedPeriodIn p (exportedMerged (toldAt 0 0 a)) ≡ exportedPeriod (resultIn p a)
 unfolding mergedPeriodIn exportedMerged resultIn
@@ -52,9 +52,9 @@ module _ (first second : List ℕ) (ok : readText ours first .check ≡ Accepted
   both-is : mergedOf first second ≡ merged ours (run ours xs) (run ours ys)
   both-is = ap₂ (merged ours) (accepted-text-is-run ours first ok) (accepted-text-is-run ours second also)
 
-  module _ (few : length (bothListed first second .segments) ≤ ours .segments) (fewer : length (bothListed first second .entries) ≤ ours .entries) where
+  module _ (few : length (bothIn first second .segments) ≤ ours .segments) (fewer : length (bothIn first second .entries) ≤ ours .entries) where
     within : mergeCheck ours (accepted ours xs) (accepted ours ys) ≡ Accepted
-    unfolding bothListed
+    unfolding bothIn
     within =
         let a = accepted ours xs in
         let b = accepted ours ys in
@@ -63,16 +63,16 @@ module _ (first second : List ℕ) (ok : readText ours first .check ≡ Accepted
     check-is : mergedOf first second .check ≡ Accepted
     check-is = rw both-is (merged-check ours (run ours xs) (run ours ys) ∙ rw (run-accepted ours ours-fit xs, run-accepted ours ours-fit ys) within)
 
-    plan-is : mergedPlan ours (accepted ours xs) (accepted ours ys) ≡ bothListed first second
-    unfolding mergedPlan kept bothListed
+    plan-is : mergedPlan ours (accepted ours xs) (accepted ours ys) ≡ bothIn first second
+    unfolding mergedPlan kept bothIn
     plan-is = rw within
 
-    holds : mergedIn first second ≡ bothListed first second
+    holds : mergedPlanIn first second ≡ bothIn first second
     holds = rw both-is (lists ours ours-fit xs ys ∙ plan-is)
 
-    module _ (before after : List ℤ) (r : RailnoiseMergedAnswer) (call : MergedCalled first second before after r) (enough : cellsNeeded (length (bothListed first second .entries)) ≤ length before) where
+    module _ (before after : List ℤ) (r : RailnoiseMergedAnswer) (call : MergedCalled first second before after r) (enough : cellsNeeded (length (bothIn first second .entries)) ≤ length before) where
       abbrev plan : Plan
-      plan = mergedIn first second
+      plan = mergedPlanIn first second
 
       abbrev answer : Answer
       answer = answerBy (levelsCheck plan (length before)) plan (ownMarks plan)
@@ -82,28 +82,28 @@ module _ (first second : List ℕ) (ok : readText ours first .check ≡ Accepted
       whole = call .answer ∙ rw (ok, also, check-is)
 
       answered : AnsweredBy plan (ownMarks plan) before after answer
-      unfolding mergedCheck firstRefused cellsWith
+      unfolding textsCheck firstRefused cellsWith
       answered = record { cells = rw (ok, also, check-is) at (call .cells); answer = refl }
 
-      some : 0 < length (bothListed first second .entries)
-      unfolding bothListed
+      some : 0 < length (bothIn first second .entries)
+      unfolding bothIn
       some = omega (arith, joined-total (accepted ours xs) (accepted ours ys), accepted-text-has-entry ours ours-fit first ok)
 
       answered-runs : AnsweredBy (planOf (merged ours (run ours xs) (run ours ys) .study)) (ownMarks plan) before after answer
       answered-runs = subst (λ (both : Added). AnsweredBy (planOf (both .study)) (ownMarks plan) before after answer) both-is answered
 
-      accurate : MergedAccurate (bothListed first second) r
+      accurate : MergedAccurate (bothIn first second) r
       unfolding exportedMerged answerOf checkNumber
       accurate =
-          let check : levelsCheck plan (length before) ≡ Accepted = rw holds (request-answered (bothListed first second) (length before) some enough) in
-          subst (MergedAccurate (bothListed first second)) (sym whole)
+          let check : levelsCheck plan (length before) ≡ Accepted = rw holds (request-answered (bothIn first second) (length before) some enough) in
+          subst (MergedAccurate (bothIn first second)) (sym whole)
           (record {
             refusal = rw check refl;
             text = refl;
             line = refl;
             period = λ p trains.
                 rw (period-exported p answer)
-                (exported-accurate p (bothListed first second) (resultIn p answer)
+                (exported-accurate p (bothIn first second) (resultIn p answer)
                 (rw plan-is at (merged-demand-3 xs ys p (rw plan-is trains) (ownMarks plan) before after answer (rw plan-is enough) answered-runs .1)));
           })
 

@@ -23,8 +23,8 @@ use Rattle.railnoise_requests_c.specs.declared.RailnoiseMergedAnswer.{Ra
 use Rattle.railnoise_requests_c.specs.Merged.{MergedCalled}
 
 -- the segments and entries of two accepted texts, by their lines alone
-unfoldable pub bothListed : List ℕ → List ℕ → Plan
-bothListed first second = joined (accepted ours (additionsOf ours first)) (accepted ours (additionsOf ours second))
+unfoldable pub bothIn : List ℕ → List ℕ → Plan
+bothIn first second = joined (accepted ours (additionsOf ours first)) (accepted ours (additionsOf ours second))
 
 -- the part of an answer for a period
 unfoldable pub mergedPeriodIn : Period → RailnoiseMergedAnswer → RailnoisePeriod
@@ -43,6 +43,6 @@ pub record MergedAccurate (plan : Plan) (r : RailnoiseMergedAnswer) : Type 0 whe
 abbrev pub MergedCallAccurate : Type 0
 MergedCallAccurate =
     (first second : List ℕ) (before after : List ℤ) (r : RailnoiseMergedAnswer) → MergedCalled first second before after r →
-    readText ours first .check ≡ Accepted → readText ours second .check ≡ Accepted → let plan = bothListed first second in
+    readText ours first .check ≡ Accepted → readText ours second .check ≡ Accepted → let plan = bothIn first second in
     length (plan .segments) ≤ ours .segments → length (plan .entries) ≤ ours .entries → cellsNeeded (length (plan .entries)) ≤ length before →
     MergedAccurate plan r

@@ -9,7 +9,7 @@ use Rattle.figures.specs.Refusal.{checkNumber}
 use Rattle.request.specs.Levels.{ownMarks, MarksAllowed}
 use Rattle.text.specs.Answer.{cellsWith}
 use Rattle.drawings.specs.declared.MergedAnswer.{MergedAnswer}
-use Rattle.drawings.specs.Drawings.{mergedIn, mergedAnswer, mergedCheck}
+use Rattle.drawings.specs.Drawings.{mergedPlanIn, mergedAnswer, textsCheck}
 use Rattle.c_values.specs.Values.{lineValue, exportedPeriod}
 use Rattle.railnoise_requests_c.specs.declared.RailnoiseMergedAnswer.{RailnoiseMergedAnswer}
 
@@ -20,5 +20,5 @@ exportedMerged a =
 -- the whole of a call: by the program's own marks, and 01 allows these
 pub record MergedCalled (first second : List ℕ) (before after : List ℤ) (r : RailnoiseMergedAnswer) : Type 0 where
   pub answer : r ≡ exportedMerged (mergedAnswer first second (length before))
-  pub cells : after ≡ cellsWith (mergedCheck first second) (mergedIn first second) before
-  pub allowed : MarksAllowed (mergedIn first second) (ownMarks (mergedIn first second))
+  pub cells : after ≡ cellsWith (textsCheck first second) (mergedPlanIn first second) before
+  pub allowed : MarksAllowed (mergedPlanIn first second) (ownMarks (mergedPlanIn first second))

@@ -12,3 +12,4 @@ pub mod Entries
 pub mod Demand3
 pub mod Readings
 pub mod SlowTrains
+pub mod Writing

@@ -53,7 +53,7 @@ period-from p levels {rows} e total count o m =
     rw (o, m, total, count .is, first, again)
 
 module _ (p : Period) (plan : Plan) where
-  own-total : totalMarkIn p (ownMarks plan) ≡ totalMark (figures (levelsOf p plan (groundMarks plan)))
+  pub own-total : totalMarkIn p (ownMarks plan) ≡ totalMark (figures (levelsOf p plan (groundMarks plan)))
   unfolding ownMarks
   own-total = go p
     where

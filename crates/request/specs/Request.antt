@@ -110,6 +110,10 @@ periodFrom p cells places close =
     let levels = take (ours .entries) cells in
     resultFrom p (totalOf (heard levels)) (countTo (λ k. getD close k false && soundsAt k places levels) (ours .segments))
 
+-- levels in the cells from a place on; without room for all of them the cells as they were
+unfoldable pub written : List ℤ → List ℤ → ℕ → List ℤ
+written levels cells at = cond (leb (at + length levels) (length cells)) (take at cells ++ levels ++ drop (at + length levels) cells) cells
+
 -- the check of so many cells
 abbrev pub checkFrom : List ℤ → List ℤ → ℕ → Check
 checkFrom day night n = requestCheck (length day) (length day + length night) n

@@ -4,14 +4,13 @@ ghost use mathlib.Core.Bool.{false, cond};
 ghost use Prim.Native.Nat.{_+_, _*_, _-_, _≤_, min};
 ghost use lib.IntN.{pos};
 ghost use lib.ListN.{length, getD, take};
-ghost use lib.Seq.{paste};
 ghost use Rattle.emission.specs.Emission.{raised};
 ghost use Rattle.emission.specs.Results.{SmallLevel};
 ghost use Rattle.figures.specs.Refusal.{numberOf, checkNumber};
 ghost use Rattle.study.specs.Plan.{planOf};
 ghost use Rattle.study.specs.Add.{ours};
 ghost use Rattle.request.specs.Levels.{cellOf, limitOf, metBy};
-ghost use Rattle.request.specs.Request.{Answered, AnsweredFrom, requestNumber, levelsNumber, entryCells, periodFrom, refusedBy};
+ghost use Rattle.request.specs.Request.{Answered, AnsweredFrom, requestNumber, levelsNumber, entryCells, periodFrom, refusedBy, written};
 ghost use Rattle.request.specs.Private.{Blank, Propagated, Filled, SegmentsHeard, CloseCount, AnyClose, CloseSegments, markedBy};
 use decibel::Level;
 use energy::LEAST_LEVEL;
@@ -226,11 +225,16 @@ pub fn refusal_answer(refusal: Refusal) -> Answer
     }
 }
 
-// Writes the levels into the cells from a place on.
-fn write(levels: &[i32], cells: &mut [i32], at: usize)
-    requires { ⌜ at + length (now levels) ≤ length (now cells) ⌝ }
-    ensures { λ _. ⌜ now (cells .exit) ≡ paste (now (cells .entry)) at (now (levels .entry)) (length (now (levels .entry))) ⌝ }
+// Writes the levels into the cells from a place on; without room for all of them the cells stay as they were.
+pub fn write_levels(levels: &[i32], cells: &mut [i32], at: usize)
+    ensures { λ _. ⌜ now (cells .exit) ≡ written (now (levels .entry)) (now (cells .entry)) at ⌝ }
 {
+    if cells.len() < levels.len() {
+        return;
+    }
+    if cells.len() - levels.len() < at {
+        return;
+    }
     let mut i: usize = 0;
     while i < levels.len() {
         cells[at + i] = levels[i];
@@ -259,8 +263,8 @@ pub fn levels_from(
     if cells.len() - day.len() < night.len() {
         return refusal_answer(Refusal::FewCells);
     }
-    write(day, cells, 0);
-    write(night, cells, day.len());
+    write_levels(day, cells, 0);
+    write_levels(night, cells, day.len());
     Answer {
         check: Check::Accepted,
         day: period_of(Period::Day, day, places, close),

@@ -7,16 +7,17 @@ use mathlib.Core.List.{_++_}
 use native.Mathlib.Omega.{arith}
 use Prim.Native.Nat.{_+_, _-_}
 use lib.ListN.{length, length-append}
+use Rattle.request.proofs.Writing.{as-pasted}
 use Rattle.drawings.specs.Private.{totalIn}
 use Rattle.drawings.proofs.Periods.{pasted-both, pasted-part, one-more, none-more, result-by}
 use Rattle.drawings.proofs.period_in.Statement.{statement}
 use Rattle.drawings.proofs.period_in.Tie as tie
 
 -- how the places of the code follow one another
-abbrev second-of : tie.After-total-of → tie.After-write2
+abbrev second-of : tie.After-total-of → tie.After-write-levels2
 second-of c = c .before .before .before .before
 
-abbrev first-of : tie.After-write2 → tie.After-write
+abbrev first-of : tie.After-write-levels2 → tie.After-write-levels
 first-of c = c .before .before .before
 
 returns : tie.Need-returns
@@ -27,7 +28,9 @@ returns c =
     let start = first .before .before in
     let a = start .args in
     let levels = a .own .now ++ a .others .now in
-    let cells = pasted-both (a .cells .now) (a .own .now) (a .others .now) (a .at) (omega (arith, start .pre .0)) (first .write .ensures) (second .write2 .ensures) in
+    let one = as-pasted (a .own .now) (a .cells .now) (a .at) (omega (arith, start .pre .0)) (first .write-levels .ensures) in
+    let two = as-pasted (a .others .now) (first .write-levels .last .1 .0) (a .at + length (a .own .now)) (omega (arith, start .pre .0, first .write-levels .kept .1 .0)) (second .write-levels2 .ensures) in
+    let cells = pasted-both (a .cells .now) (a .own .now) (a .others .now) (a .at) (omega (arith, start .pre .0)) one two in
     let part = pasted-part (a .cells .now) levels (a .at) (a .at + length (a .own .now) + length (a .others .now) - a .at) (omega (arith, start .pre .0)) (omega (arith, length-append (a .own .now) (a .others .now))) cells in
     record {
       cells = cells;

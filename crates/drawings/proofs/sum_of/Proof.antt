@@ -1,9 +1,9 @@
 -- `drawings::sum_of` meets its contract. The loop's invariant: the sum of the counts passed.
 -- Assumes nothing.
 use native.Mathlib.Omega.{arith}
-use mathlib.Core.Path.{_≡_, ap, _∙_}
+use mathlib.Core.Path.{ap, _∙_}
 use Prim.Native.Nat.{_≤_, _-_}
-use lib.ListN.{length, take}
+use lib.ListN.{length}
 use lib.Seq.{take-all}
 use Rattle.lines.specs.Contents.{sumOfCounts}
 use Rattle.drawings.proofs.FirstLine.{SumTo, sum-none, sum-more, sum-most}

@@ -2,7 +2,7 @@
 -- Assumes nothing.
 use borrow.Author.Needs.{needs}
 use native.Mathlib.Omega.{arith}
-use mathlib.Core.Path.{refl, sym}
+use mathlib.Core.Path.{sym}
 use Prim.Native.Nat.{_+_, _-_}
 use lib.ListN.{drop, length-take}
 use lib.Seq.{length-take-le}

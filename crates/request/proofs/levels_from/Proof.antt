@@ -5,6 +5,7 @@ use native.Mathlib.Omega.{arith}
 use Prim.Native.Nat.{_≤_, _+_}
 use lib.ListN.{length}
 use Rattle.figures.specs.declared.Refusal.the-variants.{NoEntry, FewCells}
+use Rattle.request.proofs.Writing.{as-pasted}
 use Rattle.request.proofs.Answers.{no-entries, few-cells, enough-cells, refused-from, accepted-from, answered-from}
 use Rattle.request.proofs.levels_from.Statement.{statement}
 use Rattle.request.proofs.levels_from.Tie as tie
@@ -13,10 +14,10 @@ use Rattle.request.proofs.levels_from.Tie as tie
 abbrev start-of : tie.Else1 → tie.Start
 start-of c = c .before .before .before
 
-abbrev enough-of : tie.After-write → tie.Else3
+abbrev enough-of : tie.After-write-levels → tie.Else3
 enough-of c = c .before .before
 
-abbrev first-of : tie.After-write2 → tie.After-write
+abbrev first-of : tie.After-write-levels2 → tie.After-write-levels
 first-of c = c .before .before .before
 
 returns : tie.Need-returns
@@ -44,12 +45,6 @@ returns-3 c =
 room : (c : tie.Else3) → let a = start-of (c .before .before) .args in length (a .day .now) + length (a .night .now) ≤ length (a .cells .now)
 room c = omega (arith, c .before .if2 .left, c .if3 .left)
 
-write-requires : tie.Need-write-requires
-write-requires c κs = omega (arith, room (c .before))
-
-write-requires-2 : tie.Need-write-requires-2
-write-requires-2 c κs = let first = c .before .before in omega (arith, room (enough-of first), first .write .kept .1 .0)
-
 returns-4 : tie.Need-returns-4
 returns-4 c =
     let second = c .before .before .before in
@@ -59,11 +54,12 @@ returns-4 c =
     let a = start-of some .args in
     answered-from
     (accepted-from (a .day .now) (a .night .now) (a .places .now) (a .close .now) (a .cells .now) (enough-cells (length (a .day .now)) _ (length (a .cells .now)) (some .if1 .left) (room enough))
-    (first .write .ensures) (second .write2 .ensures) (c .before .period-of .ensures) (c .period-of2 .ensures))
+    (as-pasted (a .day .now) (a .cells .now) 0 (omega (arith, room enough)) (first .write-levels .ensures))
+    (as-pasted (a .night .now) (first .write-levels .last .1 .0) (length (a .day .now)) (omega (arith, room enough, first .write-levels .kept .1 .0)) (second .write-levels2 .ensures)) (c .before .period-of .ensures) (c .period-of2 .ensures))
 
 pub levels-from-spec : {M : Type 1} → statement M
 levels-from-spec =
     tie.close
     (tie.spec
-    (λ c κs. search needs) returns (λ c κs. search needs) returns-2 (λ c. search needs) (λ c κs. search needs) returns-3 write-requires
-    write-requires-2 (λ c κs. search needs) (λ c κs. search needs) (λ c. search needs) returns-4)
+    (λ c κs. search needs) returns (λ c κs. search needs) returns-2 (λ c. search needs) (λ c κs. search needs) returns-3 (λ c κs. search needs)
+    (λ c κs. search needs) (λ c κs. search needs) (λ c κs. search needs) (λ c. search needs) returns-4)
