@@ -17,16 +17,13 @@ use Rattle.figures.specs.declared.Check.the-variants.{Accepted, Refused}
 use Rattle.figures.specs.Refusal.{numberOf, checkNumber, unless, firstRefused}
 use Rattle.study.specs.Plan.{Plan}
 use Rattle.study.specs.Add.{ours}
-use Rattle.study.proofs.Plans.{accepted-held}
-use Rattle.study.proofs.Runs.{run-accepted}
 use Rattle.request.specs.Levels.{ownMarks}
 use Rattle.request.specs.Request.{requestCheck, levelsCheck, refusedBy}
 use Rattle.request.proofs.Demand3.{ours-fit}
 use Rattle.text.specs.Text.{readText}
-use Rattle.text.specs.Additions.{additionsOf}
 use Rattle.text.specs.Answer.{planIn, answerWith, textAnswer, cellsWith}
-use Rattle.text.proofs.Runs.{text-is-run, accepted-text-is-run, accepted-line}
-use Rattle.text.proofs.Counted.{accepted-text-has-entry}
+use Rattle.text.proofs.Runs.{text-is-run, text-held, accepted-line}
+use Rattle.text.proofs.Counted.{accepted-text-entry}
 use Rattle.text.proofs.Refusals.{text-refusal-is-own}
 use Rattle.merging.specs.Merge.{limitsCheck, mergeCheck}
 use Rattle.merging.specs.Joined.{joined}
@@ -37,20 +34,10 @@ use Rattle.drawings.specs.Drawings.{mergedOf, mergedPlanIn, mergedAnswer
 use Rattle.drawings.proofs.Answers.{answer-check}
 use Rattle.drawings.specs.Laws.{OfBothTexts, FirstTold, SecondTold, NoneTold, WholeText, SameAnswer, MergedTexts}
 
--- ---- sizes of a text's study
+-- ---- an accepted text has an entry
 
 text-entry : (text : List ℕ) → readText ours text .check ≡ Accepted → 0 < length (planIn text .entries)
-text-entry text ok = rw (accepted-text-is-run ours text ok, run-accepted ours ours-fit (additionsOf ours text)) (accepted-text-has-entry ours ours-fit text ok)
-
-record Few (plan : Plan) : Type 0 where
-  segments : length (plan .segments) ≤ ours .segments
-  entries : length (plan .entries) ≤ ours .entries
-
-text-few : (text : List ℕ) → Few (planIn text)
-text-few text =
-    let made = text-is-run ours text in
-    let held = accepted-held ours (made .0) in
-    rw (made .1, run-accepted ours ours-fit (made .0)) (record { segments = held .count; entries = held .total })
+text-entry = accepted-text-entry ours ours-fit
 
 -- ---- the merged study of two texts
 
@@ -133,10 +120,10 @@ module _ (first second : List ℕ) (n : ℕ) where
 module _ (first second whole : List ℕ) (w : WholeText first second whole) where
   room : Room ours (planIn first) (planIn second)
   room =
-      let few = text-few whole in
+      let few = text-held ours ours-fit whole in
       let count = ap (λ (p : Plan). length (p .segments)) (w .lists) in
       let total = ap (λ (p : Plan). length (p .entries)) (w .lists) in
-      record { segments = omega (arith, joined-count (planIn first) (planIn second), few); entries = omega (arith, joined-total (planIn first) (planIn second), few) }
+      record { segments = omega (arith, joined-count (planIn first) (planIn second), few .count); entries = omega (arith, joined-total (planIn first) (planIn second), few .total) }
 
   within : mergeCheck ours (planIn first) (planIn second) ≡ Accepted
   within = room-accepts ours (planIn first) (planIn second) room

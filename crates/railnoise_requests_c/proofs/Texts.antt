@@ -23,10 +23,9 @@ use Rattle.request.specs.Request.{answerOf, answerBy, silentResult}
 use Rattle.request.proofs.Demand3.{request-answered, ours-fit}
 use Rattle.text.specs.declared.TextAnswer.{TextAnswer}
 use Rattle.text.specs.Text.{readText}
-use Rattle.text.specs.Additions.{additionsOf}
 use Rattle.text.specs.Answer.{atLine, answerWith, textAnswer, TextAnswered}
-use Rattle.text.proofs.Runs.{text-is-run, accepted-text-is-run}
-use Rattle.text.proofs.Counted.{accepted-text-has-entry}
+use Rattle.text.proofs.Runs.{text-is-run}
+use Rattle.text.proofs.Counted.{accepted-text-entry}
 use Rattle.entitlement.specs.Entitlement.{reportedIn, entriesKept}
 use Rattle.entitlement.specs.Private.{Few}
 use Rattle.railnoise_requests_c.specs.Entitlement.{Source, sourceCheck, givenLines}
@@ -54,7 +53,7 @@ lines-few s = go (s .empty)
 -- ---- an accepted text has an entry
 
 text-entry : (text : List ℕ) → readText ours text .check ≡ Accepted → 0 < length (planOf (readText ours text .study) .entries)
-text-entry text ok = rw (accepted-text-is-run ours text ok, run-accepted ours ours-fit (additionsOf ours text)) (accepted-text-has-entry ours ours-fit text ok)
+text-entry = accepted-text-entry ours ours-fit
 
 -- so lines that are not refused keep the line of 23
 pub accepted-kept : (s : Source) → sourceCheck s ≡ Accepted → entriesKept (givenLines s) ≡ true
