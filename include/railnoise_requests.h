@@ -5,7 +5,7 @@
  * railnoise_refusal_words for these. The archive librailnoise_requests_c.a has the functions below and needs
  * nothing of librailnoise_c.a, which has railnoise_levels; a program that calls both links both, in any order.
  * What railnoise.h says of threads, memory and the C library holds here too; a call of railnoise_entitlement
- * takes less than 8 kB of stack, one of railnoise_merged_levels less than @STACK@ kB.
+ * takes less than 8 kB of stack, one of railnoise_merged_levels less than 9 kB.
  */
 #ifndef RAILNOISE_REQUESTS_H
 #define RAILNOISE_REQUESTS_H
