@@ -18,12 +18,12 @@ use Rattle.figures.proofs.Numbers.{unless-number}
 use Rattle.study.specs.declared.Study.{Study}
 use Rattle.study.specs.declared.Added.{Added}
 use Rattle.study.specs.declared.lists.Holdings.{Holdings}
-use Rattle.study.specs.Plan.{Plan, planOf, heldBy}
+use Rattle.study.specs.Plan.{planOf, heldBy}
 use Rattle.study.specs.Add.{Limits, ours}
 use Rattle.study.specs.Run.{runFrom, listed}
 use Rattle.study.proofs.Additions.{answered, refused-keeps, accepted-takes}
 use Rattle.study.proofs.Sizes.{Opens}
-use Rattle.merging.specs.Merge.{limitsCheck, mergeCheck, mergeNumber, merged}
+use Rattle.merging.specs.Merge.{limitsCheck, limitsNumber, mergeCheck, mergeNumber, merged}
 
 module _ (l : Limits) (segments entries : ℕ) where
   pub segments-over : l .segments < segments → limitsCheck l segments entries ≡ Refused SegmentLimit
@@ -74,15 +74,18 @@ module _ (l : Limits) (segments entries : ℕ) where
 
 -- ---- by its number
 
-merge-number : (l : Limits) (p q : Plan) → checkNumber (mergeCheck l p q) ≡ mergeNumber l p q
-unfolding mergeCheck limitsCheck mergeNumber lowestNumber checkNumber numberOf
-merge-number l p q = simp unless-number
+limits-number : (l : Limits) (segments entries : ℕ) → checkNumber (limitsCheck l segments entries) ≡ limitsNumber l segments entries
+unfolding limitsCheck limitsNumber lowestNumber checkNumber numberOf
+limits-number l segments entries = simp unless-number
+
+pub limits-numbered : (l : Limits) (segments entries : ℕ) {r : Check} → r ≡ limitsCheck l segments entries → (r ≡ limitsCheck l segments entries) × (checkNumber r ≡ limitsNumber l segments entries)
+limits-numbered l segments entries e = (e, ap checkNumber e ∙ limits-number l segments entries)
 
 pub merged-number : (l : Limits) (first second : Study) {r : Added} → r ≡ merged l first second
     → (r ≡ merged l first second) × (checkNumber (r .check) ≡ mergeNumber l (planOf first) (planOf second))
-unfolding merged
+unfolding merged mergeCheck mergeNumber
 merged-number l first second e =
-    (e, ap (λ (r : Added). checkNumber (r .check)) e ∙ ap checkNumber (answered (mergeCheck l (planOf first) (planOf second)) first _) ∙ merge-number l (planOf first) (planOf second))
+    (e, ap (λ (r : Added). checkNumber (r .check)) e ∙ ap checkNumber (answered (mergeCheck l (planOf first) (planOf second)) first _) ∙ limits-number l _ _)
 
 -- ---- from what was read of the two studies
 

@@ -23,9 +23,11 @@ unfoldable pub mergeCheck : Limits → Plan → Plan → Check
 mergeCheck l p q = limitsCheck l (length (p .segments) + length (q .segments)) (length (p .entries) + length (q .entries))
 
 -- the same by 01's numbers
+unfoldable pub limitsNumber : Limits → ℕ → ℕ → ℕ
+limitsNumber l segments entries = lowestNumber ((21, leb segments (l .segments)) ∷ (22, leb entries (l .entries)) ∷ [])
+
 unfoldable pub mergeNumber : Limits → Plan → Plan → ℕ
-mergeNumber l p q =
-    lowestNumber ((21, leb (length (p .segments) + length (q .segments)) (l .segments)) ∷ (22, leb (length (p .entries) + length (q .entries)) (l .entries)) ∷ [])
+mergeNumber l p q = limitsNumber l (length (p .segments) + length (q .segments)) (length (p .entries) + length (q .entries))
 
 -- what the second study lists, each segment and after it its trains, is added to the first, as typed after it; "either gives back the first study"
 unfoldable pub merged : Limits → Study → Study → Added

@@ -3,7 +3,7 @@ ghost use mathlib.Core.Path.{_≡_};
 ghost use Rattle.figures.specs.Refusal.{checkNumber};
 ghost use Rattle.study.specs.Plan.{planOf};
 ghost use Rattle.study.specs.Add.{ours};
-ghost use Rattle.merging.specs.Merge.{limitsCheck, mergeNumber, merged};
+ghost use Rattle.merging.specs.Merge.{limitsCheck, limitsNumber, mergeNumber, merged};
 use figures::Check;
 use figures::Refusal;
 use study::Added;
@@ -15,7 +15,8 @@ use study::holdings_of;
 
 // Whether a study may hold so many segments and so many train entries: 21, then 22.
 pub fn limits_check(segments: usize, entries: usize) -> Check
-    ensures { λ r. ⌜ r ≡ limitsCheck ours segments entries ⌝ }
+    ensures is { λ r. ⌜ r ≡ limitsCheck ours segments entries ⌝ }
+    ensures number { λ r. ⌜ checkNumber r ≡ limitsNumber ours segments entries ⌝ }
 {
     if MOST_SEGMENTS < segments {
         return Check::Refused(Refusal::SegmentLimit);

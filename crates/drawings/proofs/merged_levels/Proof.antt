@@ -51,7 +51,7 @@ returns-3 c =
     let good = good-of limits in
     let two = second-of good in
     let one = first-of two in
-    merge-refused _ _ (one .levels-in .ensures) (two .before .before .enum-told .given .1) (two .levels-in2 .ensures) (good .enum-told2 .given .1) (limits .limits-check .ensures) (told .checked-both .given .1) (c .refused-at3 .ensures) refl
+    merge-refused _ _ (one .levels-in .ensures) (two .before .before .enum-told .given .1) (two .levels-in2 .ensures) (good .enum-told2 .given .1) (limits .limits-check .ensures .0) (told .checked-both .given .1) (c .refused-at3 .ensures) refl
 
 add-needed : tie.Need-add-if1
 add-needed c = let good = good-of (c .before .before) in omega (arith, own-small (second-of good) .entries, others-small good .entries)
@@ -63,7 +63,7 @@ returns-4 c =
     let good = good-of limits in
     let two = second-of good in
     let one = first-of two in
-    few-refused _ _ (one .levels-in .ensures) (two .before .before .enum-told .given .1) (two .levels-in2 .ensures) (good .enum-told2 .given .1) (limits .limits-check .ensures) (within .enum-told3 .given .1) (omega (arith, c .before .if1 .taken))
+    few-refused _ _ (one .levels-in .ensures) (two .before .before .enum-told .given .1) (two .levels-in2 .ensures) (good .enum-told2 .given .1) (limits .limits-check .ensures .0) (within .enum-told3 .given .1) (omega (arith, c .before .if1 .taken))
     (c .refused-at4 .ensures) refl
 
 together-requires : tie.Need-together-requires
@@ -90,7 +90,7 @@ returns-5 c =
     let good = good-of limits in
     let two = second-of good in
     let one = first-of two in
-    levels-told _ _ (one .levels-in .ensures) (two .before .before .enum-told .given .1) (two .levels-in2 .ensures) (good .enum-told2 .given .1) (limits .limits-check .ensures) (within .enum-told3 .given .1) (omega (arith, room .if1 .left))
+    levels-told _ _ (one .levels-in .ensures) (two .before .before .enum-told .given .1) (two .levels-in2 .ensures) (good .enum-told2 .given .1) (limits .limits-check .ensures .0) (within .enum-told3 .given .1) (omega (arith, room .if1 .left))
     (asked .together .ensures) (c .told-at .ensures)
 
 pub merged-levels-spec : {M : Type 1} → statement M

@@ -33,14 +33,14 @@ returns : tie.Need-returns
 returns c =
     let check = c .before .before in
     let read = check .before .before .before .before .before in
-    merge-refused (own read) (others read) (check .limits-check .ensures) (c .enum-told .given .1)
+    merge-refused (own read) (others read) (check .limits-check .ensures .0) (c .enum-told .given .1)
 
 returns-2 : tie.Need-returns-2
 returns-2 c =
     let told = c .before .before .before in
     let check = told .before .before in
     let read = check .before .before .before .before .before in
-    merge-accepted (own read) (others read) (check .limits-check .ensures) (told .enum-told2 .given .1) (c .extended .ensures)
+    merge-accepted (own read) (others read) (check .limits-check .ensures .0) (told .enum-told2 .given .1) (c .extended .ensures)
 
 pub merge-spec : {M : Type 1} → statement M
 merge-spec =
