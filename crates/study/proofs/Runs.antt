@@ -58,7 +58,7 @@ unfolding step addSegment addTrain
 step-sized l st sized (segment s) = by-answer (Sized l) (segmentAnswer l (st .count) s) st (withSegment st s) sized (with-segment-sized l st sized s)
 step-sized l st sized (train t) = by-answer (Sized l) (trainAnswer l (st .count) (st .total) t) st (withTrain st t) sized (with-train-sized l st sized t)
 
-pub from-sized : (l : Limits) (additions : List Addition) (st : Study) → Sized l st → Sized l (runFrom l st additions)
+from-sized : (l : Limits) (additions : List Addition) (st : Study) → Sized l st → Sized l (runFrom l st additions)
 unfolding runFrom
 from-sized l [] st sized = sized
 from-sized l (a ∷ rest) st sized = from-sized l rest (step l st a) (step-sized l st sized a)
