@@ -119,9 +119,8 @@ WRITTEN = "written by tools/tables.py from the formulas, in whole numbers."
 
 
 def listed(name):
-    """The name of a function's list: markBeginList for mark_begin."""
-    first, *rest = name.split("_")
-    return first + "".join(word.capitalize() for word in rest) + "List"
+    """The name of a function's list."""
+    return name + "_list"
 
 
 def entries(values):
@@ -137,47 +136,42 @@ def entries(values):
 
 def lists(tables, searched):
     text = f"-- The tables as lists: {WRITTEN}\n-- Assumes nothing.\n"
-    text += "use mathlib.Core.List.{List, [], _∷_}\n"
-    text += "use Prim.Native.Nat.{ℕ%s}\n" % (", zero, suc" if searched else "")
+    text += "use Rattle.std.specs.Prelude.{List, [], ◌∷◌, ℕ%s}\n" % (", zero, suc" if searched else "")
     for name, says, values in tables:
         text += f"\n-- {says[0].lower()}{says[1:]}\nunfoldable pub {listed(name)} : List ℕ\n{listed(name)} =\n{entries(values)}\n"
     if searched:
-        text += "\n-- the tables that are searched, by number\nabbrev pub listOf : ℕ → List ℕ\n"
+        text += "\n-- the tables that are searched, by number\nabbrev pub list_of : ℕ → List ℕ\n"
         number = "zero"
         for name in searched:
-            text += f"listOf {number} = {listed(name)}\n"
+            text += f"list_of {number} = {listed(name)}\n"
             number = number.replace("zero", "(suc zero)")
-        text += f"listOf {number.replace('zero', 'number')} = []\n"
+        text += f"list_of {number.replace('zero', 'number')} = []\n"
     return text
 
 
 def source(crate, tables, answer, searched):
-    cited = [listed(name) for name, _, _ in tables] + (["listOf"] if searched else [])
+    cited = [listed(name) for name, _, _ in tables] + (["list_of"] if searched else [])
     text = "// Tables as functions of an index: constants that the compiler keeps, so that nobody builds or lends them.\n"
-    text += f"// {WRITTEN.capitalize()}\n\n"
-    text += "ghost use mathlib.Core.Path.{_≡_};\nghost use lib.ListN.{getD};\n"
-    text += f"ghost use Rattle·{crate}·specs.specs.Lists.{{{', '.join(cited)}}};\n"
+    text += f"// {WRITTEN.capitalize()}\n#![tactic(auto)]\n\n"
+    text += "ghost use Rattle.std.specs.Prelude.{◌≡◌, get_or};\n"
+    text += f"ghost use Rattle.{crate}.specs.Lists.{{{', '.join(cited)}}};\n"
     for name, says, values in tables:
         arms = "".join(f"        {i} => {value},\n" for i, value in enumerate(values))
-        text += f"\n// {says}; 0 past the last.\npub fn {name}(i: usize) -> {answer}\n    ensures {{ λ r. ⌜ r ≡ getD {listed(name)} i 0 ⌝ }}\n"
+        text += f"\n// {says}; 0 past the last.\n#[tactic(auto, unfolding(crate::specs::Lists::{listed(name)}))]\npub fn {name}(i: usize) -> {answer}\n    ensures {{ result ≡ get_or {listed(name)} i 0 }}\n"
         text += f"{{\n    match i {{\n{arms}        _ => 0,\n    }}\n}}\n"
     if searched:
         arms = "".join(f"        {number} => {name}(i),\n" for number, name in enumerate(searched))
         text += "\n// Entry i of a table by its number, as the arms say; 0 of any other.\npub fn entry(table: usize, i: usize) -> %s\n" % answer
-        text += f"    ensures {{ λ r. ⌜ r ≡ getD (listOf table) i 0 ⌝ }}\n{{\n    match table {{\n{arms}        _ => 0,\n    }}\n}}\n"
+        text += f"    ensures {{ result ≡ get_or (list_of table) i 0 }}\n{{\n    match table {{\n{arms}        _ => 0,\n    }}\n}}\n"
     return text
 
 
-def proof(crate, name, values):
-    law = name.replace("_", "-")
-    text = f"-- `{crate}::{name}` meets its contract: each arm by its key, the last by all the keys that it is not.\n-- Assumes nothing.\n"
-    text += f"use Rattle·{crate}·specs.specs.Lists.{{{listed(name)}}}\n"
-    home = "Rattle·decibel_tables·proofs.proofs" if crate == "decibel_tables" else "Rattle·decibel_tables.proofs"
-    text += f"use {home}.Match.{{arm, past}}\n"
-    text += f"use Rattle·{crate}·proofs.proofs.{name}.Statement.{{statement}}\nuse Rattle·{crate}·proofs.proofs.{name}.Tie as tie\n\n"
-    text += f"pub {law}-spec : {{M : Type 1}} → statement M\nunfolding {listed(name)}\n{law}-spec =\n    tie.close\n    (tie.spec\n"
-    text += "".join(f"    (λ c. arm {listed(name)} (c .match .keys{i + 1}))\n" for i in range(len(values)))
-    return text + f"    (λ c. past {listed(name)} (c .before .args .i) (c .match .rest)))\n"
+def proof(crate, name):
+    """The one goal that the check leaves: no key is the index."""
+    text = f"-- Past the last key of `{crate}::{name}` its list has no entry.\n"
+    text += f"use Rattle.{crate}.specs.Lists.{{{listed(name)}}}\nuse Rattle.decibel_tables.proofs.Match.{{past}}\n"
+    text += f"use Rattle.{crate}.proofs.{name}.Goals as goal\n\npub returns-in_default : goal.returns-in_default\n"
+    return text + f"unfolding {listed(name)}\nreturns-in_default c = past {listed(name)} c.args.i c.in_default.in_default-own.rest\n"
 
 
 def files():
@@ -186,8 +180,8 @@ def files():
         tables = made()
         yield f"crates/{crate}/src/lib.rt", source(crate, tables, answer, searched)
         yield f"crates/{crate}/specs/Lists.antt", lists(tables, searched)
-        for name, _, values in tables:
-            yield f"crates/{crate}/proofs/{name}/Proof.antt", proof(crate, name, values)
+        for name, _, _ in tables:
+            yield f"crates/{crate}/proofs/{name}/Answers.antt", proof(crate, name)
 
 
 def differs(path, text):

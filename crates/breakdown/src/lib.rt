@@ -1,4 +1,6 @@
 // A study's breakdown: the parts of each segment, and those of each train entry beside its levels, a line for each.
+#![tactic(auto)]
+
 ghost use Rattle.std.specs.Prelude.{◌≡◌, pos, get_or};
 ghost use Rattle.study.specs.Plan.{plan_of};
 ghost use Rattle.writing.specs.Pages.{Put, PutEach};

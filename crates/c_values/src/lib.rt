@@ -1,4 +1,6 @@
 // Values as C's structs hold them.
+#![tactic(auto)]
+
 ghost use Rattle.std.specs.Prelude.{◌≡◌};
 ghost use Rattle.c_values.specs.Values.{level_value, line_value, exported_period};
 

@@ -1,10 +1,12 @@
 // Tables as functions of an index: constants that the compiler keeps, so that nobody builds or lends them.
 // Written by tools/tables.py from the formulas, in whole numbers.
+#![tactic(auto)]
 
 ghost use Rattle.std.specs.Prelude.{◌≡◌, get_or};
 ghost use Rattle.decibel_tables.specs.Lists.{decade_list, shadow_list, distance_list, illuminated_list, fine_list, sine_list, list_of};
 
 // Where each tenth of 10 log n begins, from 85.1 to 95.2 dB; 0 past the last.
+#[tactic(auto, unfolding(crate::specs::Lists::decade_list))]
 pub fn decade(i: usize) -> u64
     ensures { result ≡ get_or decade_list i 0 }
 {
@@ -116,6 +118,7 @@ pub fn decade(i: usize) -> u64
 }
 
 // Where each tenth of the shadow formula begins; 0 past the last.
+#[tactic(auto, unfolding(crate::specs::Lists::shadow_list))]
 pub fn shadow(i: usize) -> u64
     ensures { result ≡ get_or shadow_list i 0 }
 {
@@ -282,6 +285,7 @@ pub fn shadow(i: usize) -> u64
 }
 
 // Where each tenth of the distance formula begins; 0 past the last.
+#[tactic(auto, unfolding(crate::specs::Lists::distance_list))]
 pub fn distance(i: usize) -> u64
     ensures { result ≡ get_or distance_list i 0 }
 {
@@ -442,6 +446,7 @@ pub fn distance(i: usize) -> u64
 }
 
 // Where each tenth of the illuminated formula begins; 0 past the last.
+#[tactic(auto, unfolding(crate::specs::Lists::illuminated_list))]
 pub fn illuminated(i: usize) -> u64
     ensures { result ≡ get_or illuminated_list i 0 }
 {
@@ -508,6 +513,7 @@ pub fn illuminated(i: usize) -> u64
 }
 
 // Where each step of 500 microdecibels begins, from 10^9 on; 0 past the last.
+#[tactic(auto, unfolding(crate::specs::Lists::fine_list))]
 pub fn fine(i: usize) -> u64
     ensures { result ≡ get_or fine_list i 0 }
 {
@@ -718,6 +724,7 @@ pub fn fine(i: usize) -> u64
 }
 
 // The sine of 0 to 90 degrees in billionths; 0 past the last.
+#[tactic(auto, unfolding(crate::specs::Lists::sine_list))]
 pub fn sine(i: usize) -> u64
     ensures { result ≡ get_or sine_list i 0 }
 {

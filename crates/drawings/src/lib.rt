@@ -1,4 +1,6 @@
 // From the texts of two drawings of one window to the levels of both as one study (document 02, L5).
+#![tactic(auto)]
+
 ghost use Rattle.std.specs.Prelude.{◌≡◌, ◌++◌, ◌+◌, ◌-◌, ◌≤◌, length};
 ghost use Rattle.figures.specs.Refusal.{check_number};
 ghost use Rattle.study.specs.Add.{ours};

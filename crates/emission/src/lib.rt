@@ -1,4 +1,6 @@
 // What a train adds to the level of its entry: speed, vehicles, its row's figure, and its trains in each period.
+#![tactic(auto)]
+
 mod rolling;
 mod speed;
 mod trains;

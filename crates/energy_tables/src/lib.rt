@@ -1,10 +1,12 @@
 // Tables as functions of an index: constants that the compiler keeps, so that nobody builds or lends them.
 // Written by tools/tables.py from the formulas, in whole numbers.
+#![tactic(auto)]
 
 ghost use Rattle.std.specs.Prelude.{◌≡◌, get_or};
 ghost use Rattle.energy_tables.specs.Lists.{weight_list, power_list, mark_begin_list, mark_end_list};
 
 // The weight of a level 0 to 99 tenths below the loudest; 0 past the last.
+#[tactic(auto, unfolding(crate::specs::Lists::weight_list))]
 pub fn weight(i: usize) -> u64
     ensures { result ≡ get_or weight_list i 0 }
 {
@@ -114,6 +116,7 @@ pub fn weight(i: usize) -> u64
 }
 
 // The powers of ten from 1 to 10^15; 0 past the last.
+#[tactic(auto, unfolding(crate::specs::Lists::power_list))]
 pub fn power(i: usize) -> u64
     ensures { result ≡ get_or power_list i 0 }
 {
@@ -139,6 +142,7 @@ pub fn power(i: usize) -> u64
 }
 
 // Where the mark at each tie of a total begins, the 0th none; 0 past the last.
+#[tactic(auto, unfolding(crate::specs::Lists::mark_begin_list))]
 pub fn mark_begin(i: usize) -> u64
     ensures { result ≡ get_or mark_begin_list i 0 }
 {
@@ -348,6 +352,7 @@ pub fn mark_begin(i: usize) -> u64
 }
 
 // Where the mark at each tie of a total ends, the 0th none; 0 past the last.
+#[tactic(auto, unfolding(crate::specs::Lists::mark_end_list))]
 pub fn mark_end(i: usize) -> u64
     ensures { result ≡ get_or mark_end_list i 0 }
 {

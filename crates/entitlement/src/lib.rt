@@ -1,5 +1,7 @@
 // Entitlement to insulation (memorandum, paragraph 7): from four studies the prevailing and the relevant level of each period, and the
 // three conditions.
+#![tactic(auto)]
+
 ghost use Rattle.std.specs.Prelude.{◌≡◌, pos, ◌+ℤ◌};
 ghost use Rattle.std.specs.Int.Signed.{le_z};
 ghost use Rattle.figures.specs.Refusal.{check_number};

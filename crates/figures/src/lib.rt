@@ -1,4 +1,6 @@
 // The figures of a segment and of a train entry, what turns them back, and the signed lengths that the steps take of them.
+#![tactic(auto)]
+
 pub mod ranges;
 
 ghost use Rattle.std.specs.Prelude.{◌≡◌, cond, ◌*ℤ◌};

@@ -1,4 +1,6 @@
 // A single line of a study text (document 01, "The text"): where it ends, its numbers, and what it is read as.
+#![tactic(auto)]
+
 pub mod contents;
 pub mod fields;
 pub mod numbers;

@@ -1,4 +1,6 @@
 // Two drawings of one window in one study (document 02, L5).
+#![tactic(auto)]
+
 ghost use Rattle.std.specs.Prelude.{◌≡◌};
 ghost use Rattle.figures.specs.Refusal.{check_number};
 ghost use Rattle.study.specs.Plan.{plan_of};

@@ -1,4 +1,6 @@
 // What a segment adds to the level of each of its entries: five steps, the facade and the entered readings; and what turns a segment back.
+#![tactic(auto)]
+
 mod air;
 mod angle;
 mod check;

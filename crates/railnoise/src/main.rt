@@ -1,4 +1,6 @@
 // Reads a study text from standard input, writes its report to standard output and the notice of a refusal to standard error.
+#![tactic(auto)]
+
 use libc::{STDERR_FILENO, STDIN_FILENO, STDOUT_FILENO};
 
 fn main() {

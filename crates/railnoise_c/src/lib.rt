@@ -1,4 +1,6 @@
 // The one function for C: a study text and working cells in, both periods' results out.
+#![tactic(auto)]
+
 ghost use Rattle.std.specs.Prelude.{◌≡◌};
 ghost use Rattle.railnoise_c.specs.Exported.{exported, Called};
 

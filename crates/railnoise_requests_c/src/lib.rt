@@ -1,4 +1,6 @@
 // The later requests for C, over whole texts.
+#![tactic(auto)]
+
 ghost use Rattle.std.specs.Prelude.{◌≡◌};
 ghost use Rattle.entitlement.specs.Entitlement.{refused_entitlement, EntitlementAnsweredBy};
 ghost use Rattle.railnoise_requests_c.specs.Entitlement.{exported_combined, exported_entitlement_period, exported_entitlement, source, EntitlementCalled};

@@ -2,6 +2,8 @@
 // merges and highest speeds over studies.
 //
 // The list is standard input. A title is a line that begins with `#`; the study text after it ends at the next `#`.
+#![tactic(auto)]
+
 mod additions;
 mod entitlements;
 mod highest_speeds;

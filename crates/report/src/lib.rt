@@ -1,4 +1,6 @@
 // The report of a study text: what the program writes, and the notice of a refusal beside it.
+#![tactic(auto)]
+
 ghost use Rattle.std.specs.Prelude.{[], ◌∷◌, ◌+◌, ◌≤◌, length};
 ghost use Rattle.writing.specs.Pages.{Put};
 ghost use Rattle.report.specs.Bytes.{level as Bytes·level, verdict};

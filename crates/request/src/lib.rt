@@ -1,4 +1,6 @@
 // The request for levels: each entry's level in the working cells, and both periods' results.
+#![tactic(auto)]
+
 ghost use Rattle.std.specs.Prelude.{◌≡◌, false, cond, ◌+◌, ◌*◌, ◌-◌, ◌≤◌, min, pos, length, get_or, take};
 ghost use Rattle.emission.specs.Emission.{raised};
 ghost use Rattle.emission.specs.Results.{SmallLevel};

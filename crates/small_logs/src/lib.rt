@@ -1,10 +1,12 @@
 // Tables as functions of an index: constants that the compiler keeps, so that nobody builds or lends them.
 // Written by tools/tables.py from the formulas, in whole numbers.
+#![tactic(auto)]
 
 ghost use Rattle.std.specs.Prelude.{◌≡◌, get_or};
 ghost use Rattle.small_logs.specs.Lists.{small_log_list, twenty_log_lower_list, twenty_log_middle_list, twenty_log_upper_list};
 
 // 10 log n in tenths for n below 200, of 0 that of 1; 0 past the last.
+#[tactic(auto, unfolding(crate::specs::Lists::small_log_list))]
 pub fn small_log(i: usize) -> u32
     ensures { result ≡ get_or small_log_list i 0 }
 {
@@ -214,6 +216,7 @@ pub fn small_log(i: usize) -> u32
 }
 
 // 20 log v in tenths for v below 101, of 0 that of 1; 0 past the last.
+#[tactic(auto, unfolding(crate::specs::Lists::twenty_log_lower_list))]
 pub fn twenty_log_lower(i: usize) -> u32
     ensures { result ≡ get_or twenty_log_lower_list i 0 }
 {
@@ -324,6 +327,7 @@ pub fn twenty_log_lower(i: usize) -> u32
 }
 
 // 20 log v in tenths for v from 101 to 200, counted from 101; 0 past the last.
+#[tactic(auto, unfolding(crate::specs::Lists::twenty_log_middle_list))]
 pub fn twenty_log_middle(i: usize) -> u32
     ensures { result ≡ get_or twenty_log_middle_list i 0 }
 {
@@ -433,6 +437,7 @@ pub fn twenty_log_middle(i: usize) -> u32
 }
 
 // 20 log v in tenths for v from 201 to 300, counted from 201; 0 past the last.
+#[tactic(auto, unfolding(crate::specs::Lists::twenty_log_upper_list))]
 pub fn twenty_log_upper(i: usize) -> u32
     ensures { result ≡ get_or twenty_log_upper_list i 0 }
 {

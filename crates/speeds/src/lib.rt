@@ -1,4 +1,6 @@
 // The highest speed at which the trains of an entry may pass the window (document 02, L6).
+#![tactic(auto)]
+
 ghost use Rattle.std.specs.Prelude.{◌≡◌, ◌≤◌, ◌<◌, length, get_or, take};
 ghost use Rattle.figures.specs.Refusal.{check_number, number_of};
 ghost use Rattle.figures.specs.Rules.{most_speed};

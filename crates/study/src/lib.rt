@@ -1,4 +1,6 @@
 // A study: segments and train entries, added one after another and refused where document 01 says so.
+#![tactic(auto)]
+
 mod lists;
 
 ghost use Rattle.std.specs.Prelude.{◌≡◌, min};

@@ -1,4 +1,6 @@
 // Reading a whole study text (document 01, "The text"): the contents first, then one line a segment or a train entry.
+#![tactic(auto)]
+
 ghost use Rattle.std.specs.Prelude.{◌≡◌, ◌≤◌, length, drop, take};
 ghost use Rattle.figures.specs.Refusal.{check_number};
 ghost use Rattle.study.specs.Add.{ours};

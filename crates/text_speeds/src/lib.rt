@@ -1,4 +1,6 @@
 // From a text to the highest speed at which the trains of one of its entries may pass the window (document 02, L6).
+#![tactic(auto)]
+
 ghost use Rattle.std.specs.Prelude.{◌≡◌};
 ghost use Rattle.figures.specs.Refusal.{check_number};
 ghost use Rattle.emission.specs.Emission.{emission_of};

@@ -1,4 +1,6 @@
 // Refusals in words: the notice that tells a planner which figure to mend.
+#![tactic(auto)]
+
 ghost use Rattle.writing.specs.Pages.{Put};
 ghost use Rattle.words.specs.Words.{words_of, refused_of, notice_of};
 

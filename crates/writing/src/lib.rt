@@ -1,5 +1,7 @@
 // Words and numbers as bytes. Each writer puts its bytes at a place of `out` and answers the place after them; where there is no room
 // for all of them, `out` stays as it is and its end is answered, so that nothing shorter follows a part that was left out.
+#![tactic(auto)]
+
 ghost use Rattle.std.specs.Prelude.{◌≡◌, ◌<◌, nat_abs, length, drop};
 ghost use Rattle.writing.specs.Bytes.{digits_of, sign, signed_of, figure_of};
 ghost use Rattle.writing.specs.Pages.{Put};
