@@ -4,7 +4,7 @@ use mathlib.Core.Path.{◌≡◌, refl, sym, ◌∙◌, ap, subst}
 use mathlib.Core.Bool.{Bool, not}
 use mathlib.Core.List.{List}
 use Prim.Native.Nat.{ℕ, suc, ◌+◌, ◌-◌, ◌*◌, ◌≤◌, ◌<◌, zero-le}
-use native.Mathlib.Nat.{lt_of_lt_of_le, lt_of_not_le, le_of_lt, mul-le-mul}
+use native.Mathlib.Nat.{lt_of_lt_of_le, lt_of_not-le, le_of_lt, mul-le-mul}
 use native.Mathlib.Decide.{dec_le}
 use native.Mathlib.Omega.{arith}
 use lib.Dec.{T, ltb, ltb→lt, lt→ltb, lit≤}
@@ -121,7 +121,7 @@ module _ (v x : ℕ) (e : x ≡ clamp 0 60000 v) where
       go : Dec (v ≤ 60000) → tenths_at ten_log (x * x) ≡ tenths_at ten_log (v * v)
       go (yes h) = ap (λ (k : ℕ). tenths_at ten_log (k * k)) (e ∙ sym (clamp_same 0 60000 v zero-le h))
       go (no h) =
-          let l : 60000 < v = lt_of_not_le h in
+          let l : 60000 < v = lt_of_not-le h in
           ap (λ (k : ℕ). nearest (fence_at ten_log k)) (sym (square_over x (omega (arith, e, clamp_over 0 60000 v zero-le l))) ∙ square_over v (le_of_lt l))
 
   pub square_handed : (r : ℤ) → Tenth (tenths_at ten_log (x * x)) r → Tenth (tenths_at ten_log (v * v)) (to_z w32 (of_z w32 r))

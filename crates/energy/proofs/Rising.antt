@@ -7,7 +7,7 @@ use mathlib.Core.Bool.{Bool, true, false, cond}
 use mathlib.Core.Logic.{◌⊎◌, inl, inr, ⊎_elim}
 use mathlib.Core.List.{List, [], ◌∷◌, ◌++◌}
 use Prim.Native.Nat.{ℕ, zero, suc, ◌+◌, ◌*◌, ◌-◌, ◌^◌, ◌≤◌, ◌<◌, zero-le}
-use native.Mathlib.Nat.{le_refl, le_trans, lt_of_not_le, mul-le-mul_left, mul-le-mul_right, mul-div-le, lt-mul-div-succ, zero-lt-suc}
+use native.Mathlib.Nat.{le_refl, le_trans, lt_of_not-le, mul-le-mul_left, mul-le-mul_right, mul-div-le, lt-mul-div-succ, zero-lt-suc}
 use native.Mathlib.Decide.{dec_le}
 use native.Mathlib.Omega.{arith}
 use lib.Dec.{leb, le→leb, lit≤, lit<}
@@ -164,7 +164,7 @@ passed_louder t d {xs} {ys} some kept few r was is = go (dec_le (passed_of w) d)
 
     go : Dec (passed_of w ≤ d) → passed_of w ≤ d + passed_of v
     go (yes l) = omega arith
-    go (no l) = omega (arith, lt_of_not_le l, reached (passed_of w - d - 1) (omega (arith, lt_of_not_le l)))
+    go (no l) = omega (arith, lt_of_not-le l, reached (passed_of w - d - 1) (omega (arith, lt_of_not-le l)))
 
 -- ---- figures
 
@@ -211,7 +211,7 @@ module _ {xs ys : List ℤ} (kept-xs : LevelsKept xs) (kept-ys : LevelsKept ys) 
     where
       go : Dec (u ≤ t) → figure_of xs ≤ℤ figure_of ys
       go (yes h) = figure_same (omega (arith, higher))
-      go (no h) = figure_louder (lt_of_not_le h)
+      go (no h) = figure_louder (lt_of_not-le h)
 
 -- ---- totals
 

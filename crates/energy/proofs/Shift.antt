@@ -3,7 +3,7 @@
 use mathlib.Core.Path.{◌≡◌, sym, ap, ◌∙◌, subst}
 use mathlib.Core.List.{List, [], ◌∷◌}
 use Prim.Native.Nat.{ℕ, suc, ◌+◌, ◌*◌, ◌/◌, ◌^◌, ◌≤◌, ◌<◌, zero-le}
-use native.Mathlib.Nat.{le_trans, le_of_eq, le_of_lt, lt_of_not_le, lt_irrefl, mul-one, mul-le-mul, mul-le-mul_left, mul-le-mul_right, zero-lt-suc}
+use native.Mathlib.Nat.{le_trans, le_of_eq, le_of_lt, lt_of_not-le, lt_irrefl, mul-one, mul-le-mul, mul-le-mul_left, mul-le-mul_right, zero-lt-suc}
 use native.Mathlib.Decide.{dec_le}
 use native.Mathlib.Omega.{arith}
 use lib.Dec.{T, lit≤}
@@ -107,4 +107,4 @@ module _ (c : ℕ) where
 
       go : Dec (up y + dn (x +ℤ pos (c + 1)) ≤ up (x +ℤ pos (c + 1)) + dn y) → y ≤ℤ (x +ℤ pos (c + 1))
       go (yes l) = is_le y (x +ℤ pos (c + 1)) l
-      go (no l) = absurd (clash (omega (arith, ints, lt_of_not_le l, add_is x (pos (c + 1)), add_is x (pos 1), add_is (x +ℤ pos 1) (pos (c + 1)))))
+      go (no l) = absurd (clash (omega (arith, ints, lt_of_not-le l, add_is x (pos (c + 1)), add_is x (pos 1), add_is (x +ℤ pos 1) (pos (c + 1)))))

@@ -2,7 +2,7 @@
 -- Assumes nothing.
 use mathlib.Core.Path.{◌≡◌, ap, ◌∙◌}
 use Prim.Native.Nat.{ℕ, ◌+◌, ◌≤◌, ◌<◌}
-use native.Mathlib.Nat.{lt_of_not_le}
+use native.Mathlib.Nat.{lt_of_not-le}
 use native.Mathlib.Decide.{dec_le}
 use native.Mathlib.Omega.{arith}
 use borrow.Author.Tests.{le-leb, lt-leb, leb-true}
@@ -59,8 +59,8 @@ module _ (l : Limits) (segments entries : ℕ) where
   twenty_one e = go (dec_le segments l.segments) (dec_le entries l.entries)
     where
       go : Dec (segments ≤ l.segments) → Dec (entries ≤ l.entries) → l.segments < segments
-      go (no f) d = lt_of_not_le f
-      go (yes h) (no g) = let z = ap check_number (entries_over l segments entries h (lt_of_not_le g)) in absurd (omega arith)
+      go (no f) d = lt_of_not-le f
+      go (yes h) (no g) = let z = ap check_number (entries_over l segments entries h (lt_of_not-le g)) in absurd (omega arith)
       go (yes h) (yes k) = let z = ap check_number (both_within l segments entries h k) in absurd (omega arith)
 
   pub twenty_two : check_number (limits_check l segments entries) ≡ 22 → (segments ≤ l.segments) × (l.entries < entries)
@@ -68,8 +68,8 @@ module _ (l : Limits) (segments entries : ℕ) where
   twenty_two e = go (dec_le segments l.segments) (dec_le entries l.entries)
     where
       go : Dec (segments ≤ l.segments) → Dec (entries ≤ l.entries) → (segments ≤ l.segments) × (l.entries < entries)
-      go (no f) d = let z = ap check_number (segments_over l segments entries (lt_of_not_le f)) in absurd (omega arith)
-      go (yes h) (no g) = (h, lt_of_not_le g)
+      go (no f) d = let z = ap check_number (segments_over l segments entries (lt_of_not-le f)) in absurd (omega arith)
+      go (yes h) (no g) = (h, lt_of_not-le g)
       go (yes h) (yes k) = let z = ap check_number (both_within l segments entries h k) in absurd (omega arith)
 
 -- ---- by its number

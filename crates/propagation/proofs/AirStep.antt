@@ -3,7 +3,7 @@
 use mathlib.Core.Path.{◌≡◌, refl, sym, ◌∙◌, ap, ap₂, subst}
 use mathlib.Core.Bool.{Bool, true, false, cond}
 use Prim.Native.Nat.{ℕ, zero, suc, ◌+◌, ◌*◌, ◌/◌, ◌≤◌, ◌<◌}
-use native.Mathlib.Nat.{le_refl, le_trans, le_antisymm, le_of_lt, lt_irrefl, lt_of_lt_of_le, lt_of_le_of_lt, lt_of_not_le, mul-le-mul}
+use native.Mathlib.Nat.{le_refl, le_trans, le_antisymm, le_of_lt, lt_irrefl, lt_of_lt_of_le, lt_of_le_of_lt, lt_of_not-le, mul-le-mul}
 use native.Mathlib.Decide.{dec_le}
 use native.Mathlib.Omega.{arith}
 use lib.Dec.{T, leb, leb→le, le→leb, lit≤}
@@ -34,13 +34,13 @@ root_up_enough n = go (leb n (whole_root 2 n * whole_root 2 n)) refl
   where
     go : (b : Bool) → leb n (whole_root 2 n * whole_root 2 n) ≡ b → n ≤ cond b (whole_root 2 n) (suc (whole_root 2 n)) * cond b (whole_root 2 n) (suc (whole_root 2 n))
     go true e = leb→le n (whole_root 2 n * whole_root 2 n) (subst T (sym e) tt)
-    go false e = le_of_lt (lt_of_not_le (λ l. lt_irrefl (whole_root 2 n) (root_high n (suc (whole_root 2 n)) l)))
+    go false e = le_of_lt (lt_of_not-le (λ l. lt_irrefl (whole_root 2 n) (root_high n (suc (whole_root 2 n)) l)))
 
 -- a square of which n is at most has a root of at least that of n
 root_most : (n k : ℕ) → n ≤ k * k → whole_root 2 n ≤ k
 root_most n k h =
     let wide : k * k < suc k * suc k = omega arith in
-    let below : whole_root 2 n < suc k = lt_of_not_le (λ (l : suc k ≤ whole_root 2 n). lt_irrefl (k * k) (lt_of_lt_of_le wide (le_trans (mul-le-mul l l) (le_trans (root_low n) h)))) in
+    let below : whole_root 2 n < suc k = lt_of_not-le (λ (l : suc k ≤ whole_root 2 n). lt_irrefl (k * k) (lt_of_lt_of_le wide (le_trans (mul-le-mul l l) (le_trans (root_low n) h)))) in
     omega arith
 
 pub root_up_least : (n k : ℕ) → n ≤ k * k → root_up n ≤ k
@@ -49,14 +49,14 @@ root_up_least n k h = go (leb n (whole_root 2 n * whole_root 2 n)) refl
   where
     go : (b : Bool) → leb n (whole_root 2 n * whole_root 2 n) ≡ b → cond b (whole_root 2 n) (suc (whole_root 2 n)) ≤ k
     go true e = root_most n k h
-    go false e = lt_of_not_le (λ l. absurd (subst T e (le→leb n (whole_root 2 n * whole_root 2 n) (le_trans h (mul-le-mul l l)))))
+    go false e = lt_of_not-le (λ l. absurd (subst T e (le→leb n (whole_root 2 n * whole_root 2 n) (le_trans h (mul-le-mul l l)))))
 
 pub root_up_square : (k : ℕ) → root_up (k * k) ≡ k
 root_up_square k = le_antisymm (root_up_least (k * k) k (le_refl (k * k))) (go (dec_le k (root_up (k * k))))
   where
     go : Dec (k ≤ root_up (k * k)) → k ≤ root_up (k * k)
     go (yes h) = h
-    go (no h) = let l : suc (root_up (k * k)) ≤ k = lt_of_not_le h in let x : ⊥ = omega (arith, mul-le-mul l l, root_up_enough (k * k)) in absurd x
+    go (no h) = let l : suc (root_up (k * k)) ≤ k = lt_of_not-le h in let x : ⊥ = omega (arith, mul-le-mul l l, root_up_enough (k * k)) in absurd x
 
 -- ---- air
 
@@ -154,12 +154,12 @@ module _ {s : Segment} (g : Ranged s) {n : ℕ} (e : n ≡ slant (read s.distanc
       where
         pick : (i : ℕ) → Dec (i < j) → i < j + 1 → tie_at i * tie_at i < 6400 * n
         pick i (yes h) k = p.each i h
-        pick i (no h) k = let same : i ≡ j = omega (arith, lt_of_not_le h) in subst (λ (x : ℕ). tie_at x * tie_at x < 6400 * n) (sym same) l
+        pick i (no h) k = let same : i ≡ j = omega (arith, lt_of_not-le h) in subst (λ (x : ℕ). tie_at x * tie_at x < 6400 * n) (sym same) l
 
         more : Dec (j ≤ 23) → j + 1 ≤ 24
         more (yes h) = omega arith
         more (no h) =
-            let b : 24 ≤ j = lt_of_not_le h in
+            let b : 24 ≤ j = lt_of_not-le h in
             let c : 2450000 ≤ tie_at j = omega arith in
             let x : ⊥ = omega (arith, mul-le-mul c c, slant_is g e, slant_square_most g) in
             absurd x
@@ -170,7 +170,7 @@ module _ {s : Segment} (g : Ranged s) {n : ℕ} (e : n ≡ slant (read s.distanc
       root = root_up (6400 * n)
 
       after : (i : ℕ) → i < j → tie_at i < root
-      after i l = lt_of_not_le (λ (h : root ≤ tie_at i). lt_irrefl (6400 * n) (lt_of_le_of_lt (le_trans (root_up_enough (6400 * n)) (mul-le-mul h h)) (p.each i l)))
+      after i l = lt_of_not-le (λ (h : root ≤ tie_at i). lt_irrefl (6400 * n) (lt_of_le_of_lt (le_trans (root_up_enough (6400 * n)) (mul-le-mul h h)) (p.each i l)))
 
       last : 100000 * j < root + 50000
       last = go j (λ i. after i)

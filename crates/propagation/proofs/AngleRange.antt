@@ -4,7 +4,7 @@ use mathlib.Core.Path.{◌≡◌, refl, sym, ◌∙◌, ap, subst}
 use mathlib.Core.Bool.{Bool, true, false, cond}
 use mathlib.Core.Logic.{◌⊎◌, inl, inr}
 use Prim.Native.Nat.{ℕ, zero, suc, ◌+◌, ◌-◌, ◌*◌, ◌/◌, ◌≤◌, ◌<◌, zero-le}
-use native.Mathlib.Nat.{le_refl, le_trans, eq-or-lt_of_le, le_of_suc-le-suc, mul-le-mul_left, lt_of_not_le, mul-zero, zero-div}
+use native.Mathlib.Nat.{le_refl, le_trans, eq-or-lt_of_le, le_of_suc-le-suc, mul-le-mul_left, lt_of_not-le, mul-zero, zero-div}
 use native.Mathlib.Decide.{dec_le}
 use native.Mathlib.Omega.{arith}
 use lib.Dec.{T, leb, leb→le, lit≤, lit<}
@@ -177,7 +177,7 @@ module _ (v a : ℕ) (low : 5 ≤ v) (order : v ≤ a) (high : a ≤ 180) where
     where
       go : Dec (a ≤ 90) → Viewed (y_of v a)
       go (yes h) = narrow h
-      go (no f) = wide (lt_of_not_le f)
+      go (no f) = wide (lt_of_not-le f)
 
 -- the step lies between -45 and 5 decibels
 pub angle_lies : {s : Segment} → Ranged s → Signed 45000000 5000000 (angle_fence s)

@@ -4,7 +4,7 @@ use mathlib.Core.Path.{◌≡◌, refl, sym, ◌∙◌, ap}
 use mathlib.Core.Bool.{Bool, true, false, cond, false≢true}
 use mathlib.Core.Logic.{◌⊎◌, inl, inr}
 use Prim.Native.Nat.{ℕ, ◌+◌, ◌-◌, ◌*◌, ◌/◌, ◌%◌, ◌≤◌, ◌<◌}
-use native.Mathlib.Nat.{lt_of_not_le, mul-le-mul, mul-zero, zero-div}
+use native.Mathlib.Nat.{lt_of_not-le, mul-le-mul, mul-zero, zero-div}
 use native.Mathlib.Decide.{dec_le}
 use native.Mathlib.Omega.{arith}
 use lib.Dec.{ltb, lit<, lit≤}
@@ -58,8 +58,8 @@ module _ (a : ℕ) (Low High : ℤ → Type 0) (low : (m : ℤ) → Low m → up
       out (inr h) l u = omega (arith, low (tie t +ℤ pos 2000) h, add_is (tie t) (pos 2000), tie_is t, neg_is (pos (a / 100000)))
 
       go : Dec (48500 ≤ a % 100000) → Dec (a % 100000 ≤ 51500) → is_close a ≡ false
-      go (no x) y = close_under a (lt_of_not_le x)
-      go (yes x) (no y) = close_over a (lt_of_not_le y)
+      go (no x) y = close_under a (lt_of_not-le x)
+      go (yes x) (no y) = close_over a (lt_of_not-le y)
       go (yes x) (yes y) = let z : ⊥ = out (f t) x y in absurd z
 
   pub close_allowed : MarkAllowed Low High (is_close a)
@@ -80,8 +80,8 @@ ground_tenths_are a f low high = go (dec_le 48500 (a % 100000)) (dec_le (a % 100
 
     go : Dec (48500 ≤ a % 100000) → Dec (a % 100000 ≤ 51500) → r ≡ by_mark (is_close a) f
     go (yes l) (yes h) = rw (close_within a l h) (sym (marked_louder f r (omega (arith, ints, n, tie_is r, add_is (tie r) (negsuc 1999))) (omega (arith, ints, n, tie_is r, add_is (tie r) (pos 2000)))))
-    go (no l) d = unmarked (close_under a (lt_of_not_le l)) (nearest_is f r (omega (arith, ints, n, tie_is r, lt_of_not_le l)) (omega (arith, ints, n, tie_is (r +ℤ pos 1), add_is r (pos 1), lt_of_not_le l)))
-    go (yes l) (no h) = unmarked (close_over a (lt_of_not_le h)) (nearest_is f r (omega (arith, ints, n, tie_is r, lt_of_not_le h)) (omega (arith, ints, n, tie_is (r +ℤ pos 1), add_is r (pos 1), lt_of_not_le h)))
+    go (no l) d = unmarked (close_under a (lt_of_not-le l)) (nearest_is f r (omega (arith, ints, n, tie_is r, lt_of_not-le l)) (omega (arith, ints, n, tie_is (r +ℤ pos 1), add_is r (pos 1), lt_of_not-le l)))
+    go (yes l) (no h) = unmarked (close_over a (lt_of_not-le h)) (nearest_is f r (omega (arith, ints, n, tie_is r, lt_of_not-le h)) (omega (arith, ints, n, tie_is (r +ℤ pos 1), add_is r (pos 1), lt_of_not-le h)))
 
 -- ---- a segment
 

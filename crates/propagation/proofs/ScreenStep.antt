@@ -3,7 +3,7 @@
 use mathlib.Core.Path.{◌≡◌, refl, sym, ◌∙◌, ap, ap₂, subst}
 use mathlib.Core.Bool.{Bool, true, false, cond, true≢false}
 use Prim.Native.Nat.{ℕ, ◌+◌, ◌-◌, ◌*◌, ◌≤◌, ◌<◌}
-use native.Mathlib.Nat.{le_trans, lt_irrefl, lt_of_lt_of_le, lt_of_not_le, mul-le-mul}
+use native.Mathlib.Nat.{le_trans, lt_irrefl, lt_of_lt_of_le, lt_of_not-le, mul-le-mul}
 use native.Mathlib.Omega.{arith}
 use lib.Dec.{leb, lit<, lit≤}
 use lib.IntN.{ℤ, pos, negsuc, neg_ℤ, ◌-ℤ◌}
@@ -34,7 +34,7 @@ use Rattle.propagation.proofs.WallLoss.{nearest-reduced, lies_reduced}
 -- ---- lengths
 
 root_under : (n k : ℕ) → n < k * k → whole_root 2 n < k
-root_under n k h = lt_of_not_le (λ l. lt_irrefl n (lt_of_lt_of_le h (le_trans (mul-le-mul l l) (root_low n))))
+root_under n k h = lt_of_not-le (λ l. lt_irrefl n (lt_of_lt_of_le h (le_trans (mul-le-mul l l) (root_low n))))
 
 pub length_is : (n r : ℕ) → n ≤ 1800000000 → r ≡ whole_root 2 (10000000000 * n) → Length n r
 unfolding length_of

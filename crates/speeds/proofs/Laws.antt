@@ -4,7 +4,7 @@ use mathlib.Core.Path.{◌≡◌, refl, sym, ap, ap₂, ◌∙◌, subst, fun_ex
 use mathlib.Core.Logic.{◌⊎◌, inl, inr, ◌↔◌}
 use mathlib.Core.Bool.{Bool, true, false, ◌&&◌}
 use Prim.Native.Nat.{ℕ, zero, suc, ◌-◌, ◌≤◌, ◌<◌}
-use native.Mathlib.Nat.{le_refl, lt_of_not_le}
+use native.Mathlib.Nat.{le_refl, lt_of_not-le}
 use native.Mathlib.Decide.{dec_le, dec_lt}
 use native.Mathlib.Omega.{arith}
 use lib.Dec.{T, leb, leb→le, le→leb}
@@ -82,9 +82,9 @@ way zero entries v = outside (λ h. omega (arith, h.0)) (zero_outside 0 entries 
 way (suc k) entries v = go (dec_le (suc k) entries) (dec_le v 0)
   where
     go : Dec (suc k ≤ entries) → Dec (v ≤ 0) → Way (suc k) entries v
-    go (no f) d = outside (λ h. f h.1) (past_outside (suc k) entries v (lt_of_not_le f))
+    go (no f) d = outside (λ h. f h.1) (past_outside (suc k) entries v (lt_of_not-le f))
     go (yes h) (yes e) = none (omega arith, h) (omega arith) (none_found (suc k) entries v (omega arith) h (omega arith))
-    go (yes h) (no f) = some (omega arith, h) (lt_of_not_le f) (some_found (suc k) entries v (omega arith) h (lt_of_not_le f))
+    go (yes h) (no f) = some (omega arith, h) (lt_of_not-le f) (some_found (suc k) entries v (omega arith) h (lt_of_not-le f))
 
 module _ (plan : Plan) (entry : ℕ) (p : Period) (limit : ℤ) where
   abbrev total : ℕ → Level

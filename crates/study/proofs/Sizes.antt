@@ -3,7 +3,7 @@
 use mathlib.Core.Path.{◌≡◌, refl, sym, ap, ap₂, ◌∙◌, subst}
 use mathlib.Core.List.{List, [], ◌∷◌}
 use Prim.Native.Nat.{ℕ, ◌<◌, ◌≤◌, min}
-use native.Mathlib.Nat.{min-eq_left, lt_of_not_le}
+use native.Mathlib.Nat.{min-eq_left, lt_of_not-le}
 use native.Mathlib.Decide.{dec_le}
 use native.Mathlib.Omega.{arith}
 use lib.ListN.{length, get_or, take, length-take, length-map}
@@ -41,7 +41,7 @@ take_min t xs = go (dec_le t (length xs))
   where
     go : Dec (t ≤ length xs) → take (min t (length xs)) xs ≡ take t xs
     go (yes h) = ap (λ (k : ℕ). take k xs) (min-eq_left h)
-    go (no f) = let h : length xs ≤ t = omega (arith, lt_of_not_le f) in take_all (min t (length xs)) xs (omega arith) ∙ sym (take_all t xs h)
+    go (no f) = let h : length xs ≤ t = omega (arith, lt_of_not-le f) in take_all (min t (length xs)) xs (omega arith) ∙ sym (take_all t xs h)
 
 -- no more is taken by the number that there is
 taken_again : {A : Type 0} (xs : List A) (n : ℕ) {r : ℕ} → r ≡ length (take n xs) → take r xs ≡ take n xs

@@ -3,7 +3,7 @@
 use mathlib.Core.Path.{◌≡◌, refl, sym, ap, ◌∙◌}
 use mathlib.Core.List.{List, [], ◌∷◌, ◌++◌, append_assoc, append-nil, flatten}
 use Prim.Native.Nat.{ℕ, ◌+◌, ◌-◌, ◌<◌, ◌≤◌, max}
-use native.Mathlib.Nat.{add_assoc, zero-add, max-eq_left, max-eq_right, lt_of_not_le}
+use native.Mathlib.Nat.{add_assoc, zero-add, max-eq_left, max-eq_right, lt_of_not-le}
 use native.Mathlib.Decide.{dec_le}
 use native.Mathlib.Numerals.{add-one}
 use native.Mathlib.Omega.{arith}
@@ -53,7 +53,7 @@ nothing before at = go (dec_le at (length before))
   where
     go : Dec (at ≤ length before) → put_on [] (page before at) ≡ page before at
     go (yes h) = put_fits before at [] (omega arith) ∙ nothing_placed before at
-    go (no f) = sym (put_past before at [] (omega (arith, lt_of_not_le f))).written
+    go (no f) = sym (put_past before at [] (omega (arith, lt_of_not-le f))).written
 
 pub put_nothing : (before : List ℕ) (at : ℕ) → Put before at [] before at
 put_nothing before at = record { written = sym (nothing before at) }

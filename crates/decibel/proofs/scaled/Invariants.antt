@@ -1,0 +1,14 @@
+-- `decibel::scaled` meets its contract. The invariant of its loop: the number is n times the tenfolds, and was below 320,000,000 before the last.
+use mathlib.Core.Path.{sym, ◌∙◌}
+use mathlib.Core.Logic.{⊎_elim}
+use Prim.Native.Nat.{◌-◌}
+use native.Mathlib.Nat.{mul-one, lt_irrefl}
+use native.Mathlib.Omega.{arith}
+use Rattle.decibel.proofs.Tenfolds.{Tenfold, tenfold_start, tenfold_next, tenfolds_are}
+use Rattle.decibel.proofs.scaled.Given as goal
+
+abbrev pub invariant-loop-number : goal.invariant-loop-number
+invariant-loop-number l = Tenfold l.n l.number l.tenfolds
+
+abbrev pub decreases-loop-number : goal.decreases-loop-number
+decreases-loop-number l = 320000000 - l.number
