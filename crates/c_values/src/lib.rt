@@ -11,7 +11,7 @@ use request::PeriodResult;
 const MOST_LINE: u32 = 4294967295;
 
 // A level: whether it is silent, and its tenths, 0 when silent.
-#[derive(Drop)]
+#[derive(Clone, Copy)]
 pub struct LevelValue {
     pub silent: bool,
     pub tenths: i32,
@@ -46,7 +46,7 @@ pub fn line_value(line: usize) -> u32
 
 // `railnoise_period`: the level in tenths, 0 when silent.
 #[repr(C)]
-#[derive(Drop)]
+#[derive(Clone, Copy)]
 pub struct RailnoisePeriod {
     pub silent: bool,
     pub level: i32,

@@ -18,7 +18,7 @@ use study::{MOST_ENTRIES, MOST_SEGMENTS};
 use text::text_levels;
 
 // What two texts and working cells give: the refusal with the text and its line, both 0 where no text is at fault, or both periods' results.
-#[derive(Drop)]
+#[derive(Clone, Copy)]
 pub struct MergedAnswer {
     pub check: Check,
     pub text: u32,
@@ -28,14 +28,14 @@ pub struct MergedAnswer {
 }
 
 // How many segments and entries a text has.
-#[derive(Drop)]
+#[derive(Clone, Copy)]
 struct Sizes {
     segments: usize,
     entries: usize,
 }
 
 // What a text gives beside its levels: its refusal with the line, or its sizes and, for each period, how many segments with trains are marked as close.
-#[derive(Drop)]
+#[derive(Clone, Copy)]
 struct TextLevels {
     check: Check,
     line: usize,

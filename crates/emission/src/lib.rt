@@ -17,7 +17,7 @@ use figures::ranges::train_check;
 use figures::{Check, Period, Train};
 
 // What each step of a train adds, in tenths: the trains step by period, silent where it does not run.
-#[derive(Drop)]
+#[derive(Clone, Copy)]
 pub struct TrainBreakdown {
     pub speed: i32,
     pub vehicles: i32,
@@ -27,7 +27,7 @@ pub struct TrainBreakdown {
 }
 
 // What a train emits by day and by night.
-#[derive(Drop)]
+#[derive(Clone, Copy)]
 pub struct Emissions {
     pub day: Level,
     pub night: Level,

@@ -34,7 +34,7 @@ pub struct Layout {
 }
 
 // The levels that a layout's altered lines and its other lines report in a period.
-#[derive(Drop)]
+#[derive(Clone, Copy)]
 pub struct Levels {
     pub altered: Level,
     pub other: Level,
@@ -48,7 +48,7 @@ pub struct Change {
 }
 
 // A period's two levels with their marks, its three conditions, and whether all hold.
-#[derive(Drop)]
+#[derive(Clone, Copy)]
 pub struct PeriodEntitlement {
     pub prevailing: Total,
     pub relevant: Total,
@@ -59,7 +59,7 @@ pub struct PeriodEntitlement {
 }
 
 // A refusal with silent levels, or both periods, and whether the house is entitled in either.
-#[derive(Drop)]
+#[derive(Clone, Copy)]
 pub struct Entitlement {
     pub check: Check,
     pub day: PeriodEntitlement,
@@ -68,7 +68,7 @@ pub struct Entitlement {
 }
 
 // What one study gives: 23, or the level of each period.
-#[derive(Drop)]
+#[derive(Clone, Copy)]
 struct LinesReport {
     check: Check,
     day: Level,
@@ -76,7 +76,7 @@ struct LinesReport {
 }
 
 // The same of both studies of a layout.
-#[derive(Drop)]
+#[derive(Clone, Copy)]
 struct LayoutReport {
     check: Check,
     day: Levels,

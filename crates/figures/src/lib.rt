@@ -11,7 +11,7 @@ ghost use Rattle.figures.specs.Refusal.{number_of, check_number, unless, first_r
 ghost use Rattle.figures.specs.Rules.{within, unscreened};
 
 // One length of track as document 01 and request L1 number its fields: lengths in centimetres but for the last, angles in degrees, readings in tenths.
-#[derive(Drop)]
+#[derive(Clone, Copy)]
 pub struct Segment {
     // d, horizontal distance to the source line
     pub distance: i32,
@@ -46,7 +46,7 @@ pub struct Segment {
 }
 
 // A train entry: row of Table A1.1, speed in km/h, vehicles, and trains by day and by night.
-#[derive(Drop)]
+#[derive(Clone, Copy)]
 pub struct Train {
     pub row: i32,
     pub speed: i32,
@@ -56,14 +56,14 @@ pub struct Train {
 }
 
 // Day is 0600 to midnight, night is midnight to 0600.
-#[derive(Drop)]
+#[derive(Clone, Copy)]
 pub enum Period {
     Day,
     Night,
 }
 
 // Why something is turned back, in the order of the documents' numbers.
-#[derive(Drop)]
+#[derive(Clone, Copy)]
 pub enum Refusal {
     // 1: distance
     Distance,
@@ -101,13 +101,14 @@ pub enum Refusal {
 }
 
 // Accepted, or why not.
-#[derive(Drop)]
+#[derive(Clone, Copy)]
 pub enum Check {
     Accepted,
     Refused(Refusal),
 }
 
 // The documents' number of a refusal.
+#[tactic(auto, unfolding(crate::specs::Refusal::number_of))]
 pub fn number(refusal: Refusal) -> u32
     ensures { result ≡ number_of refusal }
 {
@@ -136,6 +137,7 @@ pub fn number(refusal: Refusal) -> u32
 }
 
 // The number of a check, 0 where nothing is refused.
+#[tactic(auto, unfolding(crate::specs::Refusal::check_number))]
 pub fn check_number(check: Check) -> u32
     ensures { result ≡ check_number check }
 {
@@ -146,6 +148,7 @@ pub fn check_number(check: Check) -> u32
 }
 
 // The refusal where its line is not kept, else what the later lines say.
+#[tactic(auto, unfolding(crate::specs::Refusal::unless, crate::specs::Refusal::check_number))]
 pub fn unless(kept: bool, refusal: Refusal, rest: Check) -> Check
     ensures is { result ≡ unless kept refusal rest }
     ensures number { check_number result ≡ cond kept (check_number rest) (number_of refusal) }
@@ -157,6 +160,7 @@ pub fn unless(kept: bool, refusal: Refusal, rest: Check) -> Check
 }
 
 // The first of two checks where it refuses, else the second.
+#[tactic(auto, unfolding(crate::specs::Refusal::first_refused, crate::specs::Refusal::is_accepted))]
 pub fn first_refused(first: Check, second: Check) -> Check
     ensures is { result ≡ first_refused first second }
     ensures number { check_number result ≡ cond (is_accepted first) (check_number second) (check_number first) }

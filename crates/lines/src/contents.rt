@@ -7,14 +7,14 @@ use crate::numbers::{Number, number_at};
 use figures::Refusal;
 
 // The sum of the entry counts so far, or that they are out of range.
-#[derive(Drop)]
+#[derive(Clone, Copy)]
 enum Sum {
     Within(usize),
     Exceeded,
 }
 
 // How many entry counts there are, the first of the lent ones, or why the line is refused.
-#[derive(Drop)]
+#[derive(Clone, Copy)]
 pub enum Contents {
     Counts(usize),
     Refused(Refusal),

@@ -6,13 +6,13 @@ use crate::numbers::{Number, number_at};
 use figures::{Segment, Train};
 use study::{no_segment, no_train};
 
-#[derive(Drop)]
+#[derive(Clone, Copy)]
 pub enum SegmentLine {
     Fields(Segment),
     Malformed,
 }
 
-#[derive(Drop)]
+#[derive(Clone, Copy)]
 pub enum TrainLine {
     Fields(Train),
     Malformed,

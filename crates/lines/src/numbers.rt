@@ -3,7 +3,7 @@ ghost use Rattle.std.specs.Prelude.{◌≡◌, ◌<◌, length, slice_index};
 ghost use Rattle.lines.specs.Numbers.{number_at};
 
 // The number at a position of a line with the position after the space that ends it, or none of the right form.
-#[derive(Drop)]
+#[derive(Clone, Copy)]
 pub enum Number {
     Value(i32, usize),
     Malformed,

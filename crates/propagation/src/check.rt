@@ -10,7 +10,7 @@ use figures::ranges::{range_check, readings_kept};
 use figures::{Check, Refusal, Segment, unless};
 
 // Kept, with the path difference over its screen (0 without one), or why not.
-#[derive(Drop)]
+#[derive(Clone, Copy)]
 pub(crate) enum Judged {
     Kept(u64),
     Refused(Refusal),

@@ -8,7 +8,7 @@ ghost use Rattle.propagation.specs.Private.{Ranges, PathTenths};
 use figures::{Segment, natural};
 
 // Ground, or the screen instead of it, in tenths, and the ground's close mark.
-#[derive(Drop)]
+#[derive(Clone, Copy)]
 pub(crate) struct Path {
     pub(crate) tenths: i32,
     pub(crate) close: bool,

@@ -24,7 +24,7 @@ use figures::{Check, Refusal, Segment};
 use ground::Path;
 
 // What each step of a segment adds, in tenths, and the ground's close mark.
-#[derive(Drop)]
+#[derive(Clone, Copy)]
 pub struct SegmentBreakdown {
     pub distance: i32,
     pub air: i32,
@@ -40,7 +40,7 @@ pub struct SegmentBreakdown {
 }
 
 // What a segment adds to the level of each of its entries, and whether its ground step is marked as close to a tie.
-#[derive(Drop)]
+#[derive(Clone, Copy)]
 pub struct Propagation {
     // 16 bits hold it, so that a judgement is small
     pub tenths: i16,
@@ -48,7 +48,7 @@ pub struct Propagation {
 }
 
 // A segment judged once: its check, and what it adds.
-#[derive(Drop)]
+#[derive(Clone, Copy)]
 pub struct Judgement {
     pub check: Check,
     pub propagation: Propagation,

@@ -9,7 +9,7 @@ use text::TextAnswer;
 
 // `railnoise_answer`: refusal 0 when answered; line 0 where none is at fault.
 #[repr(C)]
-#[derive(Drop)]
+#[derive(Clone, Copy)]
 pub struct RailnoiseAnswer {
     pub refusal: u32,
     pub line: u32,

@@ -22,7 +22,7 @@ use text_speeds::{TextSpeed, text_speed};
 
 // `railnoise_combined`: the level in tenths, 0 when silent.
 #[repr(C)]
-#[derive(Drop)]
+#[derive(Clone, Copy)]
 pub struct RailnoiseCombined {
     pub silent: bool,
     pub level: i32,
@@ -31,7 +31,7 @@ pub struct RailnoiseCombined {
 
 // `railnoise_entitlement_period`.
 #[repr(C)]
-#[derive(Drop)]
+#[derive(Clone, Copy)]
 pub struct RailnoiseEntitlementPeriod {
     pub prevailing: RailnoiseCombined,
     pub relevant: RailnoiseCombined,
@@ -43,7 +43,7 @@ pub struct RailnoiseEntitlementPeriod {
 
 // `railnoise_entitlement_answer`: refusal, text and line 0 when answered; line 0 where none is at fault.
 #[repr(C)]
-#[derive(Drop)]
+#[derive(Clone, Copy)]
 pub struct RailnoiseEntitlementAnswer {
     pub refusal: u32,
     pub text: u32,
@@ -55,7 +55,7 @@ pub struct RailnoiseEntitlementAnswer {
 
 // `railnoise_merged_answer`: refusal, text and line 0 when answered; text and line 0 where no text is at fault.
 #[repr(C)]
-#[derive(Drop)]
+#[derive(Clone, Copy)]
 pub struct RailnoiseMergedAnswer {
     pub refusal: u32,
     pub text: u32,
@@ -66,7 +66,7 @@ pub struct RailnoiseMergedAnswer {
 
 // `railnoise_speed_answer`: refusal 0 when answered; line 0 where none is at fault, speed 0 on a refusal.
 #[repr(C)]
-#[derive(Drop)]
+#[derive(Clone, Copy)]
 pub struct RailnoiseSpeedAnswer {
     pub refusal: u32,
     pub line: u32,
@@ -74,7 +74,7 @@ pub struct RailnoiseSpeedAnswer {
 }
 
 // What a text gives: its refusal and line, or the level that its study reports in each period.
-#[derive(Drop)]
+#[derive(Clone, Copy)]
 struct TextReport {
     check: Check,
     line: usize,

@@ -12,7 +12,7 @@ use figures::{Check, Refusal};
 use request::PeriodResult;
 
 // How many bytes of the report and of the notice were written.
-#[derive(Drop)]
+#[derive(Clone, Copy)]
 pub struct Written {
     pub output: usize,
     pub notice: usize,

@@ -25,7 +25,7 @@ const DAY_LIMIT: i32 = 675;
 const NIGHT_LIMIT: i32 = 625;
 
 // A period's result: its total level, how many close marks it rests on, and whether its limit is met.
-#[derive(Drop)]
+#[derive(Clone, Copy)]
 pub struct PeriodResult {
     pub level: Level,
     pub close: u32,
@@ -33,7 +33,7 @@ pub struct PeriodResult {
 }
 
 // A refusal with two silent results, or both periods' results.
-#[derive(Drop)]
+#[derive(Clone, Copy)]
 pub struct Answer {
     pub check: Check,
     pub day: PeriodResult,
@@ -41,7 +41,7 @@ pub struct Answer {
 }
 
 // An entry's levels as its working cells hold them, by day and by night.
-#[derive(Drop)]
+#[derive(Clone, Copy)]
 pub struct EntryCells {
     pub day: i32,
     pub night: i32,

@@ -23,7 +23,7 @@ const LEAST_COUNTED: u32 = 20;
 const MOST_SPEED: u32 = 300;
 
 // The highest speed in km/h, or a refusal with speed 0.
-#[derive(Drop)]
+#[derive(Clone, Copy)]
 pub struct SpeedAnswer {
     pub check: Check,
     pub speed: u32,

@@ -19,7 +19,7 @@ pub const MOST_SEGMENTS: usize = 24;
 pub const MOST_ENTRIES: usize = 96;
 
 // A train entry with the place of its segment, from 0.
-#[derive(Drop)]
+#[derive(Clone, Copy)]
 pub struct Entry {
     pub segment: usize,
     pub train: Train,

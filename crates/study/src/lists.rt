@@ -6,7 +6,7 @@ use crate::{Entry, MOST_ENTRIES, MOST_SEGMENTS, Study, at_most};
 use figures::Segment;
 
 // A study's segments and entries: the first so many of each array.
-#[derive(Drop)]
+#[derive(Clone, Copy)]
 pub struct Holdings {
     pub count: usize,
     pub total: usize,

@@ -35,7 +35,7 @@ pub struct Reading {
 }
 
 // What a text and working cells give: the refusal with its line, 0 where none is at fault, or both periods' results.
-#[derive(Drop)]
+#[derive(Clone, Copy)]
 pub struct TextAnswer {
     pub check: Check,
     pub line: usize,
@@ -44,35 +44,35 @@ pub struct TextAnswer {
 }
 
 // A segment's line: its fields and where the next line starts, or why it is refused.
-#[derive(Drop)]
+#[derive(Clone, Copy)]
 enum SegmentFields {
     Found(Segment, usize),
     Refused(Refusal),
 }
 
 // A train line, likewise.
-#[derive(Drop)]
+#[derive(Clone, Copy)]
 enum TrainFields {
     Found(Train, usize),
     Refused(Refusal),
 }
 
 // A segment's line taken: what the segment adds to the level of its entries and where the next line starts, or why it is refused.
-#[derive(Drop)]
+#[derive(Clone, Copy)]
 enum SegmentStep {
     Taken(Propagation, usize),
     Refused(Refusal),
 }
 
 // A train line taken, likewise.
-#[derive(Drop)]
+#[derive(Clone, Copy)]
 enum TrainStep {
     Taken(Train, usize),
     Refused(Refusal),
 }
 
 // What a line adds to a study: the new one and where the next line starts, or the refusal and the study as it was.
-#[derive(Drop)]
+#[derive(Clone, Copy)]
 struct LineAdded {
     check: Check,
     next: usize,
@@ -80,7 +80,7 @@ struct LineAdded {
 }
 
 // What the contents announce: how many of the lent counts and where the second line starts, or the refusal and its line.
-#[derive(Drop)]
+#[derive(Clone, Copy)]
 enum Opening {
     Announced(usize, usize),
     Refused(Refusal, usize),

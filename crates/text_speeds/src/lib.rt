@@ -18,7 +18,7 @@ use study::no_train;
 use text::text_levels;
 
 // What a text gives: the highest speed in km/h at line 0, or a refusal with speed 0, and with a text's own the line at fault.
-#[derive(Drop)]
+#[derive(Clone, Copy)]
 pub struct TextSpeed {
     pub check: Check,
     pub line: usize,

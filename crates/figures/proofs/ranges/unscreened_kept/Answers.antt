@@ -1,0 +1,11 @@
+-- `figures::ranges::unscreened_kept` meets its contract.
+use borrow.Author.Rules.{rules}
+use Rattle.figures.specs.Rules.{unscreened_kept}
+use Rattle.figures.proofs.Read.{segment_read}
+use Rattle.figures.proofs.ranges.unscreened_kept.Goals as goal
+
+pub returns : goal.returns
+unfolding unscreened_kept
+returns c =
+    let f = segment_read c.args.s c.struct_told-4-1.given in
+    simp (c.in_range.ensures, c.in_range-2.ensures, c.in_range-3.ensures, c.in_range-4.ensures, f.setback, f.top, f.chart, f.wall)
