@@ -1,9 +1,8 @@
 -- `decibel::cosine` meets its contract.
 use native.Mathlib.Omega.{arith}
 use lib.Dec.{lit≤}
-use borrow.Author.Rules.{rules}
 use Rattle.decibel.proofs.Greatest.{clamp-within}
-use Rattle.decibel.proofs.Sines.{billionths_same, negative_fits, billionths_negative, cosine_low, cosine_high}
+use Rattle.decibel.proofs.Sines.{billionths_same, billionths_negative, cosine_low, cosine_high}
 use Rattle.decibel.proofs.cosine.Goals as goal
 
 pub quarter-requires : goal.quarter-requires

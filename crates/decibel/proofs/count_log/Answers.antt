@@ -1,5 +1,4 @@
 -- `decibel::count_log` meets its contract: a small number by its list, any other as any number.
-use borrow.Author.Rules.{rules}
 use Rattle.decibel.proofs.Small.{small_handed}
 use Rattle.decibel.proofs.count_log.Goals as goal
 

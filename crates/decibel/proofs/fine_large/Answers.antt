@@ -2,7 +2,6 @@
 use native.Mathlib.Omega.{arith}
 use native.Mathlib.Nat.{mod-lt}
 use lib.Dec.{lit<}
-use borrow.Author.Rules.{rules}
 use Rattle.decibel.proofs.Rules.{decade_rule, fine_rule}
 use Rattle.decibel.proofs.Walk.{sought}
 use Rattle.decibel.proofs.FineTable.{base_some, ratio_from, ratio_sought, fine_large_is}

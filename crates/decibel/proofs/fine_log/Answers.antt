@@ -1,6 +1,5 @@
 -- `decibel::fine_log` meets its contract.
 use native.Mathlib.Omega.{arith}
-use borrow.Author.Rules.{rules}
 use Rattle.decibel.proofs.Tenfolds.{tenfolds_few}
 use Rattle.decibel.proofs.FineTable.{clamped, brought_large, fine_log_both}
 use Rattle.decibel.proofs.fine_log.Goals as goal

@@ -5,7 +5,6 @@ use Prim.Native.Nat.{◌+◌}
 use native.Mathlib.Omega.{arith}
 use lib.Dec.{lit<, lit≤}
 use mir.Facts.{to_z-of_z}
-use borrow.Author.Rules.{rules}
 use Rattle.decibel.specs.Lookup.{illuminated, lowest, highest}
 use Rattle.decibel.proofs.Rules.{illuminated_rule}
 use Rattle.decibel.proofs.Walk.{clamped_sought}

@@ -1,10 +1,7 @@
 -- `decibel::place` meets its contract, whatever the guess. The first loop keeps the place in the list, the second also its entry at most n.
 use Prim.Native.Nat.{◌+◌, ◌-◌, ◌≤◌, ◌<◌}
-use native.Mathlib.Omega.{arith}
-use borrow.Author.Rules.{rules}
 use lib.ListN.{length, get_or}
 use Rattle.decibel_tables.specs.Lists.{list_of}
-use Rattle.decibel.proofs.Walk.{not_first, not_last}
 use Rattle.decibel.proofs.place.Given as goal
 
 abbrev pub invariant-loop-r : goal.invariant-loop-r

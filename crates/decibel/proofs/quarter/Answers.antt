@@ -2,7 +2,6 @@
 use native.Mathlib.Nat.{lt_of_lt_of_le}
 use lib.Dec.{lit≤}
 use Rattle.decibel.proofs.SineTable.{entry_small, entry_is_sine}
-use borrow.Author.Rules.{rules}
 use Rattle.decibel.proofs.quarter.Goals as goal
 
 pub overflow_cast-result : goal.overflow_cast-result

@@ -1,10 +1,5 @@
 -- `decibel::scaled` meets its contract. The invariant of its loop: the number is n times the tenfolds, and was below 320,000,000 before the last.
-use mathlib.Core.Path.{sym, ◌∙◌}
-use mathlib.Core.Logic.{⊎_elim}
-use Prim.Native.Nat.{◌-◌}
-use native.Mathlib.Nat.{mul-one, lt_irrefl}
-use native.Mathlib.Omega.{arith}
-use Rattle.decibel.proofs.Tenfolds.{Tenfold, tenfold_start, tenfold_next, tenfolds_are}
+use Rattle.decibel.proofs.Tenfolds.{tenfold_next, tenfolds_are}
 use Rattle.decibel.proofs.scaled.Goals as goal
 
 pub loop-number-preserved : goal.loop-number-preserved

@@ -1,10 +1,6 @@
 -- `decibel::scaled` meets its contract. The invariant of its loop: the number is n times the tenfolds, and was below 320,000,000 before the last.
-use mathlib.Core.Path.{sym, ◌∙◌}
-use mathlib.Core.Logic.{⊎_elim}
 use Prim.Native.Nat.{◌-◌}
-use native.Mathlib.Nat.{mul-one, lt_irrefl}
-use native.Mathlib.Omega.{arith}
-use Rattle.decibel.proofs.Tenfolds.{Tenfold, tenfold_start, tenfold_next, tenfolds_are}
+use Rattle.decibel.proofs.Tenfolds.{Tenfold}
 use Rattle.decibel.proofs.scaled.Given as goal
 
 abbrev pub invariant-loop-number : goal.invariant-loop-number

@@ -1,7 +1,6 @@
 -- `decibel::sine` meets its contract.
 use native.Mathlib.Omega.{arith}
 use lib.Dec.{lit≤}
-use borrow.Author.Rules.{rules}
 use Rattle.decibel.proofs.Greatest.{clamp-within}
 use Rattle.decibel.proofs.Sines.{billionths_same, sine_low, sine_high}
 use Rattle.decibel.proofs.sine.Goals as goal

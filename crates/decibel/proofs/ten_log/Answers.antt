@@ -4,7 +4,6 @@ use mathlib.Core.Path.{◌∙◌}
 use native.Mathlib.Omega.{arith}
 use lib.Dec.{lit<}
 use mir.Facts.{to_z-of_z}
-use borrow.Author.Rules.{rules}
 use Rattle.decibel.proofs.Tenfolds.{tenfolds_few}
 use Rattle.decibel.proofs.Rules.{decade_rule}
 use Rattle.decibel.proofs.Walk.{sought}

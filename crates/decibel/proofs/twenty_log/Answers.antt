@@ -1,5 +1,4 @@
 -- `decibel::twenty_log` meets its contract: an accepted speed by its list, any other number by its square.
-use borrow.Author.Rules.{rules}
 use Rattle.decibel.proofs.Small.{lower_handed, middle_handed, upper_handed, square_fits, square_handed}
 use Rattle.decibel.proofs.twenty_log.Goals as goal
 

@@ -1,5 +1,4 @@
 -- `figures::in_shadow` meets its contract.
-use borrow.Author.Rules.{rules}
 use Rattle.decibel.proofs.Words.{back, back64}
 use Rattle.figures.specs.Geometry.{in_shadow}
 use Rattle.figures.proofs.in_shadow.Goals as goal

@@ -1,5 +1,4 @@
 -- `figures::is_unscreened` meets its contract.
-use borrow.Author.Rules.{rules}
 use Rattle.figures.specs.Rules.{unscreened}
 use Rattle.figures.proofs.Read.{segment_read}
 use Rattle.figures.proofs.is_unscreened.Goals as goal

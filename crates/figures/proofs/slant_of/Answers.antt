@@ -1,5 +1,4 @@
 -- `figures::slant_of` meets its contract.
-use borrow.Author.Rules.{rules}
 use mathlib.Core.Path.{◌∙◌, ap, ap₂}
 use Prim.Native.Nat.{◌+◌}
 use mir.Facts.{to_z-of_z}

@@ -1,10 +1,9 @@
 -- `figures::square` meets its contract.
-use borrow.Author.Rules.{rules}
 use mathlib.Core.Path.{◌∙◌, ap₂}
 use lib.IntN.{◌*ℤ◌}
 use mir.Facts.{to_z-of_z}
 use Rattle.decibel.proofs.Words.{back64}
-use Rattle.figures.proofs.Squares.{square_cast, square_of}
+use Rattle.figures.proofs.Squares.{square_of}
 use Rattle.figures.proofs.square.Goals as goal
 
 pub returns : goal.returns

@@ -1,5 +1,4 @@
 -- `figures::ranges::angles_kept` meets its contract.
-use borrow.Author.Rules.{rules}
 use Rattle.figures.specs.Rules.{angles_kept}
 use Rattle.figures.proofs.Read.{segment_read}
 use Rattle.figures.proofs.ranges.angles_kept.Goals as goal

@@ -1,5 +1,4 @@
 -- `figures::ranges::distance_kept` meets its contract.
-use borrow.Author.Rules.{rules}
 use Rattle.figures.specs.Rules.{distance_kept}
 use Rattle.figures.proofs.Read.{segment_read}
 use Rattle.figures.proofs.ranges.distance_kept.Goals as goal

@@ -1,5 +1,4 @@
 -- `figures::ranges::heights_kept` meets its contract.
-use borrow.Author.Rules.{rules}
 use Rattle.figures.specs.Rules.{heights_kept}
 use Rattle.figures.proofs.Read.{segment_read}
 use Rattle.figures.proofs.ranges.heights_kept.Goals as goal

@@ -1,5 +1,4 @@
 -- `figures::ranges::range_check` meets its contract.
-use borrow.Author.Rules.{rules}
 use Rattle.figures.specs.Rules.{range_check, ranges_then}
 use Rattle.figures.proofs.Numbers.{range_checked}
 use Rattle.figures.proofs.ranges.range_check.Goals as goal

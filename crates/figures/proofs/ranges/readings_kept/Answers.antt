@@ -1,5 +1,4 @@
 -- `figures::ranges::readings_kept` meets its contract.
-use borrow.Author.Rules.{rules}
 use Rattle.figures.specs.Rules.{readings_kept}
 use Rattle.figures.proofs.Read.{segment_read}
 use Rattle.figures.proofs.ranges.readings_kept.Goals as goal

@@ -1,5 +1,4 @@
 -- `figures::ranges::screen_kept` meets its contract.
-use borrow.Author.Rules.{rules}
 use Rattle.figures.specs.Rules.{screen_kept}
 use Rattle.figures.proofs.Read.{segment_read}
 use Rattle.figures.proofs.ranges.screen_kept.Goals as goal

@@ -1,5 +1,4 @@
 -- `figures::ranges::screened_kept` meets its contract.
-use borrow.Author.Rules.{rules}
 use mir.Facts.{to_z-of_z}
 use Rattle.figures.specs.Rules.{screened_kept}
 use Rattle.figures.proofs.Read.{segment_read}

@@ -1,5 +1,4 @@
 -- `figures::ranges::soft_kept` meets its contract.
-use borrow.Author.Rules.{rules}
 use Rattle.figures.specs.Rules.{soft_kept}
 use Rattle.figures.proofs.Read.{segment_read}
 use Rattle.figures.proofs.ranges.soft_kept.Goals as goal

@@ -1,5 +1,4 @@
 -- `figures::ranges::train_check` meets its contract.
-use borrow.Author.Rules.{rules}
 use Rattle.figures.specs.Rules.{row_kept, speed_kept, vehicles_kept, train_check}
 use Rattle.figures.proofs.Read.{train_read}
 use Rattle.figures.proofs.Numbers.{train_checked}

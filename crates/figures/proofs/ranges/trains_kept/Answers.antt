@@ -1,5 +1,4 @@
 -- `figures::ranges::trains_kept` meets its contract.
-use borrow.Author.Rules.{rules}
 use Rattle.figures.specs.Rules.{trains_kept}
 use Rattle.figures.proofs.Read.{train_read}
 use Rattle.figures.proofs.ranges.trains_kept.Goals as goal

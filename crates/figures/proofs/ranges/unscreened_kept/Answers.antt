@@ -1,5 +1,4 @@
 -- `figures::ranges::unscreened_kept` meets its contract.
-use borrow.Author.Rules.{rules}
 use Rattle.figures.specs.Rules.{unscreened_kept}
 use Rattle.figures.proofs.Read.{segment_read}
 use Rattle.figures.proofs.ranges.unscreened_kept.Goals as goal
