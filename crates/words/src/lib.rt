@@ -20,6 +20,7 @@ pub fn put_refused(out: &mut [u8], at: usize, refusal: Refusal, line: usize) -> 
 }
 
 // The rule that was not kept.
+#[tactic(auto, unfolding(crate::specs::Words::words_of))]
 fn put_words(out: &mut [u8], at: usize, refusal: Refusal) -> usize
     ensures { Put out.old at (words_of refusal) out.new result }
 {
