@@ -24,10 +24,10 @@ abbrev pub Passed : Study → Type 0
 Passed st = Is (row study-type) st (val study-type study-laws st ∷ [])
 
 segments_size : (st : Study) → Passed st → length st.segments ≡ 24
-segments_size st g = simp length-map at g.1.1.0.1.0.1
+segments_size st g = g.1.1.0.1.0.1
 
 entries_size : (st : Study) → Passed st → length st.entries ≡ 96
-entries_size st g = simp length-map at g.1.1.1.1.0.1.0.1
+entries_size st g = g.1.1.1.1.0.1.0.1
 
 -- the part of a list that counts
 pub taken_length : {A : Type 0} (xs : List A) (n size r : ℕ) → length xs ≡ size → r ≡ min n size → r ≡ length (take n xs)

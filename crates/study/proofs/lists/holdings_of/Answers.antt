@@ -1,0 +1,8 @@
+-- `study::lists::holdings_of` meets its contract.
+use borrow.Author.Rules.{rules}
+use Rattle.study.specs.Plan.{holdings_of}
+use Rattle.study.proofs.lists.holdings_of.Goals as goal
+
+pub returns : goal.returns
+unfolding holdings_of
+returns c = rw (c.at_most.ensures, c.at_most-2.ensures)
