@@ -6,7 +6,7 @@ use Prim.Native.Nat.{ℕ, ◌<◌, ◌≤◌, min}
 use native.Mathlib.Nat.{min-eq_left, lt_of_not-le}
 use native.Mathlib.Decide.{dec_le}
 use native.Mathlib.Omega.{arith}
-use lib.ListN.{length, get_or, take, length-take, length-map}
+use lib.ListN.{length, get_or, take, length-take}
 use lib.Seq.{get_or-take, take_all}
 use denote.Laws.{Is}
 use denote.Struct.Declared.{row}

@@ -1,5 +1,4 @@
 -- `study::add_segment` meets its contract: the answer's own check, accepted or refused.
-use borrow.Author.Rules.{rules}
 use native.Mathlib.Omega.{arith}
 use mathlib.Core.Path.{◌≡◌, sym, ◌∙◌}
 use Rattle.figures.specs.declared.Check.TheVariants.{Accepted}

@@ -1,12 +1,12 @@
 -- `study::extended` meets its contract. Both loops' invariants: what is still to be added makes the study of all additions.
 use native.Mathlib.Omega.{arith}
-use Prim.Native.Nat.{◌≤◌, ◌<◌, ◌-◌}
-use mathlib.Core.Logic.{⊎_elim}
+use Prim.Native.Nat.{◌<◌}
 use lib.ListN.{length}
 use Rattle.study.specs.Plan.{plan_of, held_by}
 use Rattle.study.proofs.Sizes.{plan_segment, plan_entry}
-use Rattle.study.proofs.Remaining.{Counted, counted, AtSegment, AtEntry, at_first, at_last, at_first_entry, entry_passed, train_tried, segment_tried}
+use Rattle.study.proofs.Remaining.{counted, at_first, at_last, entry_passed, train_tried, segment_tried}
 use Rattle.study.proofs.extended.Goals as goal
+use Rattle.study.proofs.extended.Goals.{then-entry-k, else-entry-k}
 
 pub loop-k-init : goal.loop-k-init
 loop-k-init c = (
@@ -23,7 +23,10 @@ loop-i-preserved c =
     let h : v.i < length (plan_of st).entries = omega arith in
     let same = plan_entry st v.i h in (
       omega arith,
-      ⊎_elim (λ w. train_tried (plan_of st) h v.invariant.1 same w.0.taken w.2.ensures.0 w.4) (λ w. entry_passed (plan_of st) h v.invariant.1 same w.0.left w.1) c.if-entry-k.branch,
+      elim c.if-entry-k.branch [
+        | then-entry-k w ↦ train_tried (plan_of st) h v.invariant.1 same w.if-entry-k.true w.add_train-added.ensures.is w.study-is
+        | else-entry-k w ↦ entry_passed (plan_of st) h v.invariant.1 same w.if-entry-k.false w.study-is
+      ],
     )
 
 pub loop-k-preserved : goal.loop-k-preserved

@@ -1,11 +1,7 @@
 -- `study::extended` meets its contract. Both loops' invariants: what is still to be added makes the study of all additions.
-use native.Mathlib.Omega.{arith}
-use Prim.Native.Nat.{◌≤◌, ◌<◌, ◌-◌}
-use mathlib.Core.Logic.{⊎_elim}
-use lib.ListN.{length}
+use Prim.Native.Nat.{◌≤◌, ◌-◌}
 use Rattle.study.specs.Plan.{plan_of, held_by}
-use Rattle.study.proofs.Sizes.{plan_segment, plan_entry}
-use Rattle.study.proofs.Remaining.{Counted, counted, AtSegment, AtEntry, at_first, at_last, at_first_entry, entry_passed, train_tried, segment_tried}
+use Rattle.study.proofs.Remaining.{Counted, AtSegment, AtEntry}
 use Rattle.study.proofs.extended.Given as goal
 
 abbrev pub invariant-loop-i : goal.invariant-loop-i

@@ -1,5 +1,4 @@
 -- `study::segment_answer` meets its contract: the limit, then the segment's own lines.
-use borrow.Author.Rules.{rules}
 use Rattle.study.specs.Add.{segment_answer}
 use Rattle.study.proofs.Additions.{segment_answered}
 use Rattle.study.proofs.segment_answer.Goals as goal

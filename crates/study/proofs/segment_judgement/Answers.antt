@@ -1,5 +1,4 @@
 -- `study::segment_judgement` meets its contract: the limit, then the segment's own judgement.
-use borrow.Author.Rules.{rules}
 use mathlib.Core.Path.{sym, ◌∙◌}
 use Rattle.study.proofs.Additions.{judged_within, allowed_within, judged_past, allowed_past, judgement_number}
 use Rattle.study.proofs.segment_judgement.Goals as goal

@@ -1,5 +1,4 @@
 -- `study::train_answer` meets its contract: the limit, then the train's own lines.
-use borrow.Author.Rules.{rules}
 use Rattle.study.specs.Add.{train_answer}
 use Rattle.study.proofs.Additions.{train_answered}
 use Rattle.study.proofs.train_answer.Goals as goal

@@ -1,5 +1,4 @@
 -- `study::lists::holdings_of` meets its contract.
-use borrow.Author.Rules.{rules}
 use Rattle.study.specs.Plan.{holdings_of}
 use Rattle.study.proofs.lists.holdings_of.Goals as goal
 
