@@ -1,7 +1,7 @@
 -- Laws of the digits that stand at a position of a line: one at a time, and one to five of them as a number without a sign.
 -- Assumes nothing.
 use Rattle.std.proofs.Common.{◌≡◌, ℕ, suc, ◌+◌, ◌-◌, ◌*◌, ◌%◌, ◌^◌, ◌<◌, ◌≤◌, Bool, true, false, cond, not, ◌&&◌, ◌||◌, eqb, leb, ◌⊎◌, List, [], ◌∷◌, length, get_or, drop, pos, refl, ◌∙◌, inl, inr, ⊎_elim, lt_of_lt_of_le, pow-suc, add-one, arith, lit<, drop-cons, w32, SFits, to_z, ne_eqb, eqb-true, le-leb}
-use mathlib.Core.Bool.{and-false, or_true}
+use mathlib.Core.Bool.{and-false, or-true}
 use mathlib.Core.Option.{none, some, none-ne-some}
 use native.Mathlib.Nat.{pow-le-pow_right, sub_self}
 use mir.Facts.{to_z_pos}
@@ -117,7 +117,7 @@ unsigned_long w e = rw (le-leb 1 (length w) (omega arith), lt-leb (length w) 5 e
 -- a first digit above zero
 pub unsigned_above : (b : ℕ) (bs : List ℕ) → 48 < b → suc (length bs) ≤ 5 → unsigned (b ∷ bs) ≡ decimal 0 (b ∷ bs)
 unfolding unsigned
-unsigned_above b bs p l = rw (le-leb 1 (suc (length bs)) (omega arith), le-leb (suc (length bs)) 5 l, ne_eqb b 48 (λ e. omega arith), or_true)
+unsigned_above b bs p l = rw (le-leb 1 (suc (length bs)) (omega arith), le-leb (suc (length bs)) 5 l, ne_eqb b 48 (λ e. omega arith), or-true)
 
 pub above_some : (b : ℕ) (bs : List ℕ) {n : ℕ} → 48 < b → unsigned (b ∷ bs) ≡ some n → 0 < n
 unfolding unsigned decimal

@@ -26,7 +26,7 @@ pub struct Entry {
 }
 
 // Segments and train entries, up to so many. Nothing but this crate makes or changes one.
-#[derive(Drop)]
+#[derive(Clone, Copy)]
 pub struct Study {
     segments: [Segment; MOST_SEGMENTS],
     count: usize,
@@ -35,7 +35,7 @@ pub struct Study {
 }
 
 // What an addition answers: the refusal with the study as it was, or the new study.
-#[derive(Drop)]
+#[derive(Clone, Copy)]
 pub struct Added {
     pub study: Study,
     pub check: Check,

@@ -27,7 +27,7 @@ const MOST_BYTES: usize = 16384;
 const SECOND_LINE: usize = 2;
 
 // What a text gives: accepted at line 0 with its study, or the refusal, the line at fault and the empty study.
-#[derive(Drop)]
+#[derive(Clone, Copy)]
 pub struct Reading {
     pub check: Check,
     pub line: usize,

@@ -26,7 +26,7 @@ pub struct TextSpeed {
 }
 
 // How many train lines an accepted text has, and the train of one of them, counted from 0; that of an empty place where there is none.
-#[derive(Drop)]
+#[derive(Clone, Copy)]
 struct Trains {
     total: usize,
     train: Train,
