@@ -1,0 +1,9 @@
+-- `text::add_segment_line` meets its contract: what the fields add, or why there are none.
+use mathlib.Core.Path.{sym, subst}
+use Rattle.text.specs.Private.{LineAdds}
+use Rattle.text.proofs.Steps.{segment_line_lem, segment_read}
+use Rattle.text.proofs.add_segment_line.Goals as goal
+
+pub returns-in-Found : goal.returns-in-Found
+returns-in-Found c =
+    subst (LineAdds _ _ _ _) (sym c.line_added.ensures) (segment_line_lem (segment_read c.in-Found.is c.segment_fields.ensures) c.args.study c.add_segment.ensures.is)
