@@ -8,7 +8,7 @@ set -uo pipefail
 
 here=$(dirname -- "$(readlink -f -- "$0")")
 if [ -f "$here/crates.txt" ]; then
-    program=$here/target/bin/railnoise
+    program=$here/crates/railnoise/out/railnoise
     sample=$here/crates/railnoise/stdin
     header=$here/include/railnoise.h
 else
@@ -63,7 +63,7 @@ Status: 0 all answered, 1 some study was refused, 2 wrong use, or something coul
 
 built() {
     [ -x "$program" ] && { [ ! -f "$here/crates.txt" ] ||
-        [ -z "$(find "$here/crates.txt" "$here/crates" -type f -newer "$program" -print -quit)" ]; }
+        [ -z "$(find "$here/crates.txt" "$here/crates" -name out -prune -o -type f -newer "$program" -print -quit)" ]; }
 }
 
 # stop SIGNAL: ends the build with all its children, then this script in the signal's own way.
@@ -75,15 +75,19 @@ stop() {
     kill -s "$1" $$
 }
 
-# Proves and builds in a process group of its own, so that all of it can be ended. Each crate is shown as it is proved.
+# Proves and builds in a process group of its own, so that all of it can be ended. Each crate is shown as it is proved. rt runs the
+# program too, here on nothing; what that writes goes to the log alone.
 prove() {
-    local log=$here/target/build.log signal built
+    local log=$here/target/build.log crate signal built
     say "proving and building, some minutes the first time; the whole log is $log"
     set -m
     (
-        cd "$here" && rt check railnoise 2>&1 </dev/null 9>&- | tee "$log" | {
+        cd "$here/crates/railnoise" && rt run 2>&1 </dev/null 9>&- | tee "$log" | {
             while IFS= read -r line; do
-                case $line in 'rt: '*) printf '%s\n' "$line" >&2 ;; esac
+                case $line in
+                'crate '*) crate=${line#crate } crate=${crate%%:*} ;;
+                'logic=proved '*) say "$crate is proved" ;;
+                esac
             done || :
         }
     ) &

@@ -2,27 +2,27 @@
 # Speed, instructions and stack of the product's four C functions beside the plain C program, with strtol (plain) and
 # with a digit loop of its own (digits).
 #   host/bench.sh [--counts] [ARCHIVE] [TEXTS]
-# --counts: what is the same from run to run alone, no times; ARCHIVE: the static library to test, by default the product's, with
-# librailnoise_requests_c.a beside it; TEXTS: how many the plain program is tried on for misreadings, by default 20000.
+# --counts: what is the same from run to run alone, no times; ARCHIVE: the static library to test, with librailnoise_requests_c.a
+# beside it, by default the product's; TEXTS: how many the plain program is tried on for misreadings, by default 20000.
 set -eu
 here=$(cd "$(dirname "$0")" && pwd)
+root=$here/..
+# shellcheck source=tools/places.sh
+. "$root/tools/places.sh"
 times=yes
 if [ "${1-}" = --counts ]; then
     times=no
     shift
 fi
-archive=${1:-$here/../target/staticlib/librailnoise_c.a}
+take_archives "${1:-}"
 texts=${2:-20000}
-requests=$(dirname "$archive")/librailnoise_requests_c.a
-[ -r "$archive" ] || { echo "$archive is missing: run rt staticlib railnoise_c" >&2; exit 2; }
-[ -r "$requests" ] || { echo "$requests is missing: run rt staticlib railnoise_requests_c" >&2; exit 2; }
 command -v valgrind >/dev/null || { echo "host/bench.sh: valgrind is missing" >&2; exit 2; }
 build=$here/build
 mkdir -p "$build"
 
 compile="gcc -std=c11 -O2 -Wall -Wextra -Werror"
 $compile -I"$here/../include" -DDIGIT_LOOP -c "$here/c/plain.c" -o "$build/digits.o"
-$compile -I"$here/../include" "$here/c/bench.c" "$here/c/plain.c" "$build/digits.o" "$archive" "$requests" \
+$compile -I"$here/../include" "$here/c/bench.c" "$here/c/plain.c" "$build/digits.o" "$archive" "$requests_archive" \
     ${LINK_FLAGS:-} -lm -lpthread -Wl,-z,now -o "$build/bench"
 # First by itself: what it says under the instruction counter is not shown.
 "$build/bench" check

@@ -17,19 +17,19 @@ wrong=0
 
 # checkout NAME: a checkout in which the program is built
 checkout() {
-    mkdir -p "$build/$1/crates/railnoise" "$build/$1/include" "$build/$1/target/bin"
+    mkdir -p "$build/$1/crates/railnoise/out" "$build/$1/include"
     cp "$root/railnoise.sh" "$root/crates.txt" "$build/$1/"
     cp "$root/crates/railnoise/stdin" "$build/$1/crates/railnoise/"
     cp "$root/include/railnoise.h" "$build/$1/include/"
-    cp "$program" "$build/$1/target/bin/railnoise"
-    touch "$build/$1/target/bin/railnoise"
+    cp "$program" "$build/$1/crates/railnoise/out/railnoise"
+    touch "$build/$1/crates/railnoise/out/railnoise"
 }
 
 # fresh NAME: a checkout in which nothing is built, with the program at hand for the kit to put in place
 fresh() {
     checkout "$1"
-    mv "$build/$1/target/bin/railnoise" "$build/$1/made"
-    rm -r "$build/$1/target"
+    mv "$build/$1/crates/railnoise/out/railnoise" "$build/$1/made"
+    rm -r "$build/$1/crates/railnoise/out"
 }
 
 # told OUTCOME NAME [WHY]
@@ -184,7 +184,7 @@ try 'a reader that went away' 0 '2\n' '*cannot write to standard output' \
 
 # The program's own words on standard error, and a program that fails.
 checkout stub
-stub=$build/stub/target/bin/railnoise
+stub=$build/stub/crates/railnoise/out/railnoise
 printf '#!/bin/sh\ncat >/dev/null\necho "railnoise: words of the program" >&2\necho "refused 9 line 3"\n' >"$stub"
 try "the program's words pass through" 1 'refused 9 line 3\n' 'railnoise: words of the program' stub/railnoise.sh other
 try 'the words with a closed standard error' 1 'refused 9 line 3\n' '' sh -c '"$1" "$2" 2>&-' sh stub/railnoise.sh other
@@ -207,21 +207,24 @@ touch locked/crates.txt
 mkdir kit
 cat >kit/rt <<'KIT'
 #!/bin/sh
-# Stands for rt: takes all that it can read, says what rt says, counts its runs, and puts the program in place. SLOW: seconds that a
-# crate takes.
+# Stands for rt run: takes all that it can read, says what rt says, counts its runs, puts the program in place, and writes what that
+# does. SLOW: seconds that a crate takes.
+[ "$*" = run ] || exit 2
+cd ../..
 cat >/dev/null
 echo run >>builds
-echo 'fn small: proved'
-echo 'rt: decibel proved (0 s)'
+echo 'fn small: proved' >&2
+echo 'crate decibel: modules loaded=1 checked=2' >&2
+[ -e broken ] || echo 'logic=proved functions=1' >&2
 if [ -n "${SLOW:-}" ]; then
     sleep "$SLOW" &
     echo $! >child
     wait
 fi
-[ ! -e broken ] || { echo 'rt: decibel is not proved'; exit 1; }
-mkdir -p target/bin
-cp made target/bin/railnoise
-echo 'rt: ok, 1 crates proved'
+[ ! -e broken ] || { echo 'logic=not-proved' >&2; exit 1; }
+mkdir -p crates/railnoise/out
+cp made crates/railnoise/out/railnoise
+echo 'refused 13 line 1'
 KIT
 chmod +x kit/rt
 with_kit() {
@@ -236,17 +239,16 @@ fresh first
 try 'a file that cannot be read starts no build' 2 '' '*no such file' with_kit first/railnoise.sh missing
 holds 'nothing was built for it' [ ! -e first/builds ]
 try 'the first build shows each crate' 0 "$other_answer" '*proving and building*
-rt: decibel proved (0 s)
-rt: ok, 1 crates proved' with_kit first/railnoise.sh other
+railnoise: decibel is proved' with_kit first/railnoise.sh other
 try 'the second run builds nothing' 0 "$other_answer" '' with_kit first/railnoise.sh other
 fresh mute
 [ ! -c /dev/full ] || try 'a build that cannot show its crates' 0 "$other_answer" '' \
     with_kit sh -c '"$1" "$2" 2>/dev/full' sh mute/railnoise.sh other
 fresh piped
-try 'a build leaves standard input alone' 0 "$other_answer" '*rt: ok*' with_kit piped/railnoise.sh <other
+try 'a build leaves standard input alone' 0 "$other_answer" '*decibel is proved' with_kit piped/railnoise.sh <other
 fresh broken
 touch broken/broken
-try 'a build that fails shows the end of its log' 2 '' '*fn small: proved*rt: decibel is not proved*could not be proved*' \
+try 'a build that fails shows the end of its log' 2 '' '*fn small: proved*logic=not-proved*could not be proved*' \
     with_kit broken/railnoise.sh other
 mkdir tools
 for tool in bash cat cp dirname env find flock head mkdir readlink rm sed sh sleep tail tee touch; do

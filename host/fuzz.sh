@@ -1,7 +1,7 @@
 #!/bin/sh
 # Coverage-guided fuzzing of railnoise_levels, railnoise_merged_levels and railnoise_highest_speed under AddressSanitizer, with libFuzzer.
 #   host/fuzz.sh [--install] SECONDS [ARCHIVE [REQUESTS_ARCHIVE]]
-# The static libraries to test, by default the product's as rt staticlib writes them, the second beside the first.
+# The static libraries to test, by default the product's as rt lib writes them; the second by default beside a first that is named.
 # --install: where clang or its fuzzer library is missing, install Debian's packages of them with apt-get. Without it the script
 # says what is missing and exits with 2.
 # Coverage comes from the plain program and from the second implementation, both instrumented here, and from an archive if it was
@@ -9,6 +9,9 @@
 # New texts are kept in host/build/corpus; a failing one is written to host/build/fuzz-*.
 set -eu
 here=$(cd "$(dirname "$0")" && pwd)
+root=$here/..
+# shellcheck source=tools/places.sh
+. "$root/tools/places.sh"
 install=no
 if [ "${1:-}" = --install ]; then
     install=yes
@@ -16,10 +19,7 @@ if [ "${1:-}" = --install ]; then
 fi
 [ $# -ge 1 ] || { echo "usage: host/fuzz.sh [--install] SECONDS [ARCHIVE [REQUESTS_ARCHIVE]]" >&2; exit 2; }
 seconds=$1
-archive=${2:-$here/../target/staticlib/librailnoise_c.a}
-requests_archive=${3:-$(dirname "$archive")/librailnoise_requests_c.a}
-[ -r "$archive" ] || { echo "$archive is missing: run rt staticlib railnoise_c" >&2; exit 2; }
-[ -r "$requests_archive" ] || { echo "$requests_archive is missing: run rt staticlib railnoise_requests_c" >&2; exit 2; }
+take_archives "${2:-}" "${3:-}"
 build=$here/build
 mkdir -p "$build/corpus"
 

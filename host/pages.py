@@ -67,7 +67,7 @@ def commands():
 
 
 def answer(text):
-    return subprocess.run([ROOT / "target" / "bin" / "railnoise"], input=text, capture_output=True, text=True, check=True).stdout
+    return subprocess.run([ROOT / "crates" / "railnoise" / "out" / "railnoise"], input=text, capture_output=True, text=True, check=True).stdout
 
 
 def rows():

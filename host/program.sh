@@ -4,7 +4,7 @@
 # Beside a refusal one line on standard error says the same in words; else nothing stands there.
 # Then the command around it, railnoise.sh, is tried by host/command.sh.
 #   host/program.sh [PROGRAM]
-# PROGRAM: by default target/bin/railnoise, as rt check railnoise builds it.
+# PROGRAM: by default the product's, as rt run and rt ci build it.
 #
 # Levels are worked out from these documents: row 1 is 14.8, 100 km/h 71.2 and 150 km/h 74.7, ten vehicles are 10.0 and 60 are 17.8,
 # 2000 trains 33.0; 48.1 come off by day and 43.3 by night; angles 5, 5 are -38.5, a facade is 2.5; distance and air are 0.0 at 25 m,
@@ -12,8 +12,10 @@
 # last the far wall (02, L1).
 set -eu
 here=$(cd "$(dirname "$0")" && pwd)
-program=${1:-$here/../target/bin/railnoise}
-[ -x "$program" ] || { echo "$program is missing: run rt check railnoise" >&2; exit 2; }
+root=$here/..
+# shellcheck source=tools/places.sh
+. "$root/tools/places.sh"
+take_program "${1:-}"
 sample=$here/../crates/railnoise/stdin
 build=$here/build
 mkdir -p "$build"

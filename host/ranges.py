@@ -6,10 +6,10 @@
 - BOUNDS are the named bounds of crates/figures/specs/Rules.antt. From them and the lines below them there come the ranges of the 15 and 5
   figures; the screen has values and no range.
 - README.md, docs/PLANNER.md, docs/RULES.md and the header have a table of them each, with units.
-- The header's comment of each refusal, its words, and `wordsOf` name the ranges of its figures. The words are the same in both, also of refusals
+- The header's comment of each refusal, its words, and `words_of` name the ranges of its figures. The words are the same in both, also of refusals
   that no text leads to, which host/words.sh cannot try.
-- LIMITS are those of a study (`ours`), of a text's bytes (`readText`), of its working cells (`cellsNeeded`), the numbers on a
-  segment's and a train's line (`segmentOf`, `trainOf`), and the least speed that counts (`leastCounted`) with the highest: an answer on the
+- LIMITS are those of a study (`ours`), of a text's bytes (`read_text`), of its working cells (`cells_needed`), the numbers on a
+  segment's and a train's line (`segment_of`, `train_of`), and the least speed that counts (`least_counted`) with the highest: an answer on the
   highest speed lies between these two. `inside` and `outside` are how far below the limit the bare level lies there and at the next speed, by
   demand 3's distance (`demanded`). STATED has where they stand.
 - host/c/plain.c has the same ranges, and host/c/host_test.c tries both ends of each.
@@ -36,26 +36,26 @@ BOUNDS = {name: int(value) for name, value in re.findall(r"^abbrev pub (\w+) : �
 
 # Each figure in 01's order: its field, the line of the rules that has its range, its unit, the refusal
 FIGURES = [
-    ("distance", "distanceKept", "cm", 1),
-    ("height", "heightsKept", "cm", 2),
-    ("mean", "heightsKept", "cm", 2),
-    ("soft", "softKept", "tenths", 3),
-    ("view", "anglesKept", "degrees", 4),
-    ("doubled", "anglesKept", "degrees", 4),
+    ("distance", "distance_kept", "cm", 1),
+    ("height", "heights_kept", "cm", 2),
+    ("mean", "heights_kept", "cm", 2),
+    ("soft", "soft_kept", "tenths", 3),
+    ("view", "angles_kept", "degrees", 4),
+    ("doubled", "angles_kept", "degrees", 4),
     ("screen", None, "", 5),
-    ("setback", "screenedKept", "cm", 5),
-    ("top", "screenedKept", "cm", 5),
-    ("chart", "screenedKept", "0.1 dB", 5),
-    ("track", "readingsKept", "0.1 dB", 7),
-    ("ballast", "readingsKept", "0.1 dB", 7),
-    ("facade", "readingsKept", "", 7),
-    ("opposite", "readingsKept", "degrees", 7),
-    ("wall", "screenedKept", "dm", 5),
-    ("row", "rowKept", "", 8),
-    ("speed", "speedKept", "km/h", 9),
-    ("vehicles", "vehiclesKept", "", 10),
-    ("day", "trainsKept", "", 11),
-    ("night", "trainsKept", "", 11),
+    ("setback", "screened_kept", "cm", 5),
+    ("top", "screened_kept", "cm", 5),
+    ("chart", "screened_kept", "0.1 dB", 5),
+    ("track", "readings_kept", "0.1 dB", 7),
+    ("ballast", "readings_kept", "0.1 dB", 7),
+    ("facade", "readings_kept", "", 7),
+    ("opposite", "readings_kept", "degrees", 7),
+    ("wall", "screened_kept", "dm", 5),
+    ("row", "row_kept", "", 8),
+    ("speed", "speed_kept", "km/h", 9),
+    ("vehicles", "vehicles_kept", "", 10),
+    ("day", "trains_kept", "", 11),
+    ("night", "trains_kept", "", 11),
 ]
 SEGMENT = 15  # so many of them are a segment's
 SHORT = {"centimetres": "cm", "decimetres": "dm", "tenths of dB": "0.1 dB"}  # units that some tables write out
@@ -76,39 +76,39 @@ def bound(name):
 
 def term(text):
     """A bound as the pages write it: a number, or θ for the angle of view."""
-    if text == "(s .view)":
+    if text == "s.view":
         return "θ"
     if text == "most":  # the Chart 6(c) reading's depends on the kind of screen
-        return max(bound(name) for name in re.findall(r"screenedKept s \(pos (\w+)\)", line_of("screenKept")))
-    below, name = re.fullmatch(r"\((negℤ \()?pos (\w+)\)+", text).groups()
+        return max(bound(name) for name in re.findall(r"screened_kept s \(pos (\w+)\)", line_of("screen_kept")))
+    below, name = re.fullmatch(r"\((neg_ℤ \()?pos (\w+)\)+", text).groups()
     return -bound(name) if below else bound(name)
 
 
 def ends(field, line):
     """The ends of a figure's range by the rules."""
     if field == "setback":
-        off_source = re.search(r"leZ \(pos (\w+)\) \(s \.setback\)", line_of(line))
-        off_window = re.search(r"leZ \(s \.setback \+ℤ pos (\w+)\) \(s \.distance\)", line_of(line))
+        off_source = re.search(r"le_z \(pos (\w+)\) s\.setback", line_of(line))
+        off_window = re.search(r"le_z \(s\.setback \+ℤ pos (\w+)\) s\.distance", line_of(line))
         return bound(off_source[1]), f"d - {bound(off_window[1])}"
-    side = r"(\((?:negℤ \(pos \w+\)|pos \w+|s \.\w+)\)|most)"
-    (low, high), = re.findall(rf"within {side} {side} \([st] \.{field}\)", line_of(line))
+    side = r"(\((?:neg_ℤ \(pos \w+\)|pos \w+)\)|s\.\w+|most)"
+    (low, high), = re.findall(rf"within {side} {side} [st]\.{field}\b", line_of(line))
     return term(low), term(high)
 
 
 RANGES = {field: ends(field, line) for field, line, _, _ in FIGURES if line}
 SEGMENTS, ENTRIES = map(int, spec(r"^ours = record \{ segments = (\d+); entries = (\d+) \}$").groups())
-spec(r"^cellsNeeded t = t \+ t$")  # so twice as many cells
+spec(r"^cells_needed t = t \+ t$")  # so twice as many cells
 ABOVE, BELOW = (int(far) / 1_000_000 for far in spec(r"^demanded = record \{ above = (\d+); below = (\d+);").groups())
 LIMITS = {
     "segments": SEGMENTS,
     "entries": ENTRIES,
     "cells": 2 * ENTRIES,
-    "bytes": int(spec(r"^readText l text = cond \(leb \(length text\) (\d+)\)")[1]),
+    "bytes": int(spec(r"^read_text l text = cond \(leb \(length text\) (\d+)\)")[1]),
     "late_segment": SEGMENTS + 1,
     "late_entry": ENTRIES + 1,
-    "figures": int(spec(r"^segmentOf line = segmentAs \(exactly (\d+) \(")[1]),
-    "train_figures": int(spec(r"^trainOf line = trainAs \(exactly (\d+) \(")[1]),
-    "counted": int(spec(r"^leastCounted = (\d+)$")[1]),
+    "figures": int(spec(r"^segment_of line = segment_as \(exactly (\d+) \(")[1]),
+    "train_figures": int(spec(r"^train_of line = train_as \(exactly (\d+) \(")[1]),
+    "counted": int(spec(r"^least_counted = (\d+)$")[1]),
     "fastest": RANGES["speed"][1],
     "inside": 0.6 - BELOW,
     "outside": 0.5 + ABOVE,
@@ -251,12 +251,12 @@ def refusals():
     told += [(f"the header's words of {name}", numbers[name], words) for name, words in worded if name in numbers]
     in_header = {numbers[name]: "".join(re.findall(r'"([^"]*)"', words)) for name, words in worded if numbers.get(name)}
     in_specs = {}
-    for name, words in re.findall(r'^wordsOf (\w+) = ascii "(.*)"$', spec(r"^wordsOf .*?\n\n")[0], re.M):
-        number = int(spec(rf"^numberOf {name} = (\d+)$")[1])
-        told.append((f"wordsOf {name}", number, words))
+    for name, words in re.findall(r'^words_of (\w+) = ascii "(.*)"$', spec(r"^words_of .*?\n\n")[0], re.M):
+        number = int(spec(rf"^number_of {name} = (\d+)$")[1])
+        told.append((f"words_of {name}", number, words))
         in_specs[number] = words
     for number in sorted(in_header.keys() | in_specs.keys()):
-        yield in_header.get(number) == in_specs.get(number), f"the header has other words of refusal {number} than wordsOf"
+        yield in_header.get(number) == in_specs.get(number), f"the header has other words of refusal {number} than words_of"
     for number in range(1, 12):
         # a facade has two values and no range; night trains are named with the day's
         ours = [written(field) for field, line, _, refusal in FIGURES if line and refusal == number and field not in ("facade", "night")]

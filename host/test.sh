@@ -3,14 +3,14 @@
 # under valgrind, which also sees inside an archive that was not built with a sanitizer. Before them each
 # header is compiled alone, as C99 and, where there is a compiler for it, as C++.
 #   host/test.sh [ARCHIVE [REQUESTS_ARCHIVE]]
-# The static libraries to test, by default the product's as rt staticlib writes them, the second beside the first.
+# The static libraries to test, by default the product's as rt lib writes them; the second by default beside a first that is named.
 set -eu
 here=$(cd "$(dirname "$0")" && pwd)
+root=$here/..
+# shellcheck source=tools/places.sh
+. "$root/tools/places.sh"
 include=$here/../include
-archive=${1:-$here/../target/staticlib/librailnoise_c.a}
-requests_archive=${2:-$(dirname "$archive")/librailnoise_requests_c.a}
-[ -r "$archive" ] || { echo "$archive is missing: run rt staticlib railnoise_c" >&2; exit 2; }
-[ -r "$requests_archive" ] || { echo "$requests_archive is missing: run rt staticlib railnoise_requests_c" >&2; exit 2; }
+take_archives "${1:-}" "${2:-}"
 build=$here/build
 mkdir -p "$build"
 

@@ -1,11 +1,13 @@
 #!/bin/sh
 # Holds the program's words on standard error beside the header's, for every refusal that a text can give.
 #   host/words.sh [PROGRAM]
-# PROGRAM: by default target/bin/railnoise. A refusal N at line K is told as `railnoise: refused N line K: WORDS`; an answer as nothing.
+# PROGRAM: by default the product's. A refusal N at line K is told as `railnoise: refused N line K: WORDS`; an answer as nothing.
 set -eu
 here=$(cd "$(dirname "$0")" && pwd)
-program=${1:-$here/../target/bin/railnoise}
-[ -x "$program" ] || { echo "$program is missing: run rt check railnoise" >&2; exit 2; }
+root=$here/..
+# shellcheck source=tools/places.sh
+. "$root/tools/places.sh"
+take_program "${1:-}"
 build=$here/build
 mkdir -p "$build"
 gcc -std=c99 -Wall -Wextra -Werror -I"$here/../include" "$here/c/words.c" -o "$build/words"

@@ -12,13 +12,11 @@ case ${1:-},$# in
 esac
 prefix=$1
 root=$(cd "$(dirname "$0")/.." && pwd)
-program=$root/target/bin/railnoise
-archives=$root/target/staticlib
+# shellcheck source=tools/places.sh
+. "$root/tools/places.sh"
 version=$(sed -n 's/^#define RAILNOISE_VERSION "\(.*\)"$/\1/p' "$root/include/railnoise.h")
-[ -x "$program" ] || { echo "$program is missing: run rt check railnoise" >&2; exit 2; }
-for crate in railnoise_c railnoise_requests_c; do
-    [ -r "$archives/lib$crate.a" ] || { echo "$archives/lib$crate.a is missing: run rt staticlib $crate" >&2; exit 2; }
-done
+take_program ''
+take_archives ''
 
 # put MODE FROM TO
 put() {
@@ -36,7 +34,7 @@ done
 # package NAME DESCRIPTION: header, archive and pkg-config file
 package() {
     put 644 "$root/include/$1.h" "include/$1.h"
-    put 644 "$archives/lib$1_c.a" "lib/lib$1_c.a"
+    put 644 "$(archive_of "$1_c")" "lib/lib$1_c.a"
     mkdir -p "$prefix/lib/pkgconfig"
     cat >"$prefix/lib/pkgconfig/$1.pc" <<PC
 prefix=\${pcfiledir}/../..

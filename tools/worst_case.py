@@ -4,7 +4,7 @@
     tools/worst_case.py [PROGRAM]           searches, and writes the studies it found to docs/studies
     tools/worst_case.py --check [PROGRAM]   works out these studies again and compares with the program and docs/ACCURACY.md
 
-PROGRAM is by default target/bin/railnoise. It is asked what it reports. Beside it stands the farthest report that document 01 allows:
+PROGRAM is by default crates/railnoise/out/railnoise. It is asked what it reports. Beside it stands the farthest report that document 01 allows:
 its marks are free where a value lies more than 0.001 and less than 0.002 dB from a tie. Floating point finds the figures; what is
 printed is worked out from document 01's formulas alone with 60 digits, marks and energies as document 01 has them; a far wall as
 document 02 has it (L1).
@@ -318,7 +318,7 @@ def row_of(path, report, program):
 
 def main():
     check = sys.argv[1:2] == ["--check"]
-    program = (sys.argv[1 + check:] or [str(ROOT / "target" / "bin" / "railnoise")])[0]
+    program = (sys.argv[1 + check:] or [str(ROOT / "crates" / "railnoise" / "out" / "railnoise")])[0]
     rows = []
     for sign, side in SIDES.items():
         cases = {
