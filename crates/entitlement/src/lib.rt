@@ -20,14 +20,14 @@ use study::Study;
 const DECIBEL: i64 = 10;
 
 // Some lines at a window: their study, or, marked as empty, none; then the study is not read.
-#[derive(Drop)]
+#[derive(Clone, Copy)]
 pub struct Lines {
     pub empty: bool,
     pub study: Study,
 }
 
 // All lines at a window at one time: those that the works alter, and the others.
-#[derive(Drop)]
+#[derive(Clone, Copy)]
 pub struct Layout {
     pub altered: Lines,
     pub other: Lines,

@@ -26,7 +26,7 @@ pub struct Entry {
 }
 
 // Segments and train entries, up to so many. Nothing but this crate makes or changes one.
-#[derive(Drop)]
+#[derive(Clone, Copy)]
 pub struct Study {
     segments: [Segment; MOST_SEGMENTS],
     count: usize,
