@@ -1,7 +1,6 @@
 // What no text can show: refusals by the study's condition, 20 to 24, of additions and of the request for levels, and the speed that a study keeps.
-use crate::put;
 use figures::{Check, Segment, Train};
-use libc::STDOUT_FILENO;
+use std::io;
 use study::Study;
 
 // A segment that keeps its lines but perhaps for its distance. Its other figures are 0, as at a place that nothing was added to.
@@ -43,29 +42,25 @@ pub(crate) fn with_trains(start: Study, n: usize) -> Study {
 }
 
 // Writes what was refused, or that it was accepted.
-pub(crate) fn show(name: &[u8], check: Check) {
-    put(name);
+pub(crate) fn show(rt: &impl Print, name: &str, check: Check) -> io::Result<()> {
     match check {
-        Check::Accepted => put(b" accepted\n"),
-        Check::Refused(refusal) => {
-            put(b" refused ");
-            io::print_decimal(STDOUT_FILENO, figures::number(refusal) as u64);
-            put(b"\n");
-        }
+        Check::Accepted => println!(rt; "{name} accepted"),
+        Check::Refused(refusal) => println!(rt; "{name} refused {}", figures::number(refusal)),
     }
 }
 
 // A study of so many segments and one more of some distance, so many trains and one more of some row: writes what the last segment,
 // the last train and the request for levels with some cells are answered.
 fn show_trial(
-    title: &[u8],
+    rt: &impl Print,
+    title: &str,
     segments: usize,
     distance: i32,
     trains: usize,
     row: i32,
     cells: &mut [i32],
-) {
-    put(title);
+) -> io::Result<()> {
+    println!(rt; "{title}")?;
     let first = with_segments(segments);
     let held = study::add_segment(first, plain_segment(distance));
     let second = with_trains(held.study, trains);
@@ -74,100 +69,104 @@ fn show_trial(
     let segment = held.check;
     let train = full.check;
     let asked = answer.check;
-    show(b"segment", segment);
-    show(b"train", train);
-    show(b"levels", asked);
+    show(rt, "segment", segment)?;
+    show(rt, "train", train)?;
+    show(rt, "levels", asked)
 }
 
 // 21, and that it comes before a segment's own refusal.
-fn show_segments(cells: &mut [i32]) {
-    show_trial(b"# Additions: a 24th segment\n", 23, 1000, 0, 1, cells);
+fn show_segments(rt: &impl Print, cells: &mut [i32]) -> io::Result<()> {
+    show_trial(rt, "# Additions: a 24th segment", 23, 1000, 0, 1, cells)?;
     show_trial(
-        b"# Additions: a 25th segment that keeps its lines\n",
+        rt,
+        "# Additions: a 25th segment that keeps its lines",
         24,
         1000,
         0,
         1,
         cells,
-    );
+    )?;
     show_trial(
-        b"# Additions: a 25th segment of distance 999\n",
+        rt,
+        "# Additions: a 25th segment of distance 999",
         24,
         999,
         0,
         1,
         cells,
-    );
+    )
 }
 
 // 20 and 22, and that they come before a train's own refusal.
-fn show_entries(cells: &mut [i32]) {
+fn show_entries(rt: &impl Print, cells: &mut [i32]) -> io::Result<()> {
     show_trial(
-        b"# Additions: a train after a refused segment\n",
+        rt,
+        "# Additions: a train after a refused segment",
         0,
         999,
         0,
         1,
         cells,
-    );
-    show_trial(b"# Additions: a 96th entry\n", 0, 1000, 95, 1, cells);
+    )?;
+    show_trial(rt, "# Additions: a 96th entry", 0, 1000, 95, 1, cells)?;
     show_trial(
-        b"# Additions: a 97th entry of row 0\n",
+        rt,
+        "# Additions: a 97th entry of row 0",
         0,
         1000,
         96,
         0,
         cells,
-    );
+    )
 }
 
 // 23 and 24, in this order.
-fn show_requests(cells: &mut [i32], few: &mut [i32]) {
+fn show_requests(rt: &impl Print, cells: &mut [i32], few: &mut [i32]) -> io::Result<()> {
     show_trial(
-        b"# Additions: a segment without an entry\n",
+        rt,
+        "# Additions: a segment without an entry",
         0,
         1000,
         0,
         0,
         cells,
-    );
+    )?;
     show_trial(
-        b"# Additions: two entries with 3 cells\n",
+        rt,
+        "# Additions: two entries with 3 cells",
         0,
         1000,
         1,
         1,
         few,
-    );
-    show_trial(b"# Additions: no entry with 3 cells\n", 0, 999, 0, 1, few);
+    )?;
+    show_trial(rt, "# Additions: no entry with 3 cells", 0, 999, 0, 1, few)
 }
 
 // Writes the speed that a study holds for its first entry.
-pub(crate) fn show_kept_speed(study: Study) {
+pub(crate) fn show_kept_speed(rt: &impl Print, study: Study) -> io::Result<()> {
     let held = study::holdings_of(study);
     let entries = held.entries;
     let entry = entries[0];
     let kept = entry.train;
-    put(b"kept speed ");
-    io::print_decimal(STDOUT_FILENO, figures::natural(kept.speed));
-    put(b"\n");
+    println!(rt; "kept speed {}", figures::natural(kept.speed))
 }
 
-fn show_kept() {
-    put(b"# Additions: a train at 7 km/h\n");
+fn show_kept(rt: &impl Print) -> io::Result<()> {
+    println!(rt; "# Additions: a train at 7 km/h")?;
     let mut train = plain_train(1);
     train.speed = 7;
     let added = study::add_train(with_segments(1), train);
     let check = added.check;
-    show(b"train", check);
-    show_kept_speed(added.study);
+    show(rt, "train", check)?;
+    show_kept_speed(rt, added.study)
 }
 
-pub(crate) fn show_each() {
+pub(crate) fn show_each(rt: &impl Print) -> io::Result<()> {
     let mut cells = [0i32; 192];
     let mut few = [0i32; 3];
-    show_segments(&mut cells);
-    show_entries(&mut cells);
-    show_requests(&mut cells, &mut few);
-    show_kept();
+    show_segments(rt, &mut cells)?;
+    show_entries(rt, &mut cells)?;
+    show_requests(rt, &mut cells, &mut few)?;
+    show_kept(rt)
 }

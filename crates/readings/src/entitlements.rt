@@ -1,10 +1,9 @@
 // Entitlement over studies: refusal 23, which no text can show, and that a mark of emptiness hides what a study holds.
 use crate::additions::{show, with_segments};
-use crate::put;
 use decibel::Level;
 use entitlement::{Layout, Lines, PeriodEntitlement, entitlement_of};
 use figures::Train;
-use libc::STDOUT_FILENO;
+use std::io;
 
 // One segment with one entry of so many trains by day and by night.
 fn lines(day: i32, night: i32, empty: bool) -> Lines {
@@ -27,52 +26,47 @@ fn without_entry(empty: bool) -> Lines {
 }
 
 // A level in tenths; none here is below zero.
-pub(crate) fn show_level(name: &[u8], level: Level) {
-    put(name);
+pub(crate) fn show_level(rt: &impl Print, name: &str, level: Level) -> io::Result<()> {
     match level {
-        Level::Silent => put(b" silent"),
-        Level::Figure(tenths) => {
-            put(b" ");
-            io::print_decimal(STDOUT_FILENO, figures::natural(tenths));
-        }
+        Level::Silent => print!(rt; "{name} silent"),
+        Level::Figure(tenths) => print!(rt; "{name} {}", figures::natural(tenths)),
     }
 }
 
-fn show_condition(name: &[u8], holds: bool) {
-    put(name);
+fn show_condition(rt: &impl Print, name: &str, holds: bool) -> io::Result<()> {
     if holds {
-        put(b" yes");
+        print!(rt; "{name} yes")
     } else {
-        put(b" no");
+        print!(rt; "{name} no")
     }
 }
 
-fn show_period(name: &[u8], period: PeriodEntitlement) {
+fn show_period(rt: &impl Print, name: &str, period: PeriodEntitlement) -> io::Result<()> {
     let prevailing = period.prevailing;
     let relevant = period.relevant;
     let before = prevailing.level;
     let after = relevant.level;
-    put(name);
-    show_level(b" prevailing", before);
-    show_level(b" relevant", after);
-    show_condition(b" reaches", period.reaches);
-    show_condition(b" rises", period.rises);
-    show_condition(b" contributes", period.contributes);
-    show_condition(b" entitled", period.entitled);
-    put(b"\n");
+    print!(rt; "{name}")?;
+    show_level(rt, " prevailing", before)?;
+    show_level(rt, " relevant", after)?;
+    show_condition(rt, " reaches", period.reaches)?;
+    show_condition(rt, " rises", period.rises)?;
+    show_condition(rt, " contributes", period.contributes)?;
+    show_condition(rt, " entitled", period.entitled)?;
+    println!(rt)
 }
 
-fn show_trial(title: &[u8], before: Layout, after: Layout) {
-    put(title);
+fn show_trial(rt: &impl Print, title: &str, before: Layout, after: Layout) -> io::Result<()> {
+    println!(rt; "{title}")?;
     let answer = entitlement_of(before, after);
     let check = answer.check;
     let day = answer.day;
     let night = answer.night;
-    show(b"entitlement", check);
-    show_period(b"day", day);
-    show_period(b"night", night);
-    show_condition(b"house", answer.entitled);
-    put(b"\n");
+    show(rt, "entitlement", check)?;
+    show_period(rt, "day", day)?;
+    show_period(rt, "night", night)?;
+    show_condition(rt, "house", answer.entitled)?;
+    println!(rt)
 }
 
 fn layout(altered: Lines, other: Lines) -> Layout {
@@ -80,41 +74,53 @@ fn layout(altered: Lines, other: Lines) -> Layout {
 }
 
 // Other lines at each of the four places, beside few trains at the others.
-fn show_places(few: Lines, lines: Lines, first: &[u8], second: &[u8], third: &[u8], fourth: &[u8]) {
+fn show_places(
+    rt: &impl Print,
+    few: Lines,
+    lines: Lines,
+    first: &str,
+    second: &str,
+    third: &str,
+    fourth: &str,
+) -> io::Result<()> {
     let both = layout(few, few);
-    show_trial(first, layout(lines, few), both);
-    show_trial(second, both, layout(lines, few));
-    show_trial(third, layout(few, lines), both);
-    show_trial(fourth, both, layout(few, lines));
+    show_trial(rt, first, layout(lines, few), both)?;
+    show_trial(rt, second, both, layout(lines, few))?;
+    show_trial(rt, third, layout(few, lines), both)?;
+    show_trial(rt, fourth, both, layout(few, lines))
 }
 
-pub(crate) fn show_each() {
+pub(crate) fn show_each(rt: &impl Print) -> io::Result<()> {
     let few = lines(1, 1, false);
     show_places(
+        rt,
         few,
         without_entry(false),
-        b"# Entitlement: altered lines before without an entry\n",
-        b"# Entitlement: altered lines after without an entry\n",
-        b"# Entitlement: other lines before without an entry\n",
-        b"# Entitlement: other lines after without an entry\n",
-    );
+        "# Entitlement: altered lines before without an entry",
+        "# Entitlement: altered lines after without an entry",
+        "# Entitlement: other lines before without an entry",
+        "# Entitlement: other lines after without an entry",
+    )?;
     show_places(
+        rt,
         few,
         lines(2000, 2000, true),
-        b"# Entitlement: altered lines before marked as empty\n",
-        b"# Entitlement: altered lines after marked as empty\n",
-        b"# Entitlement: other lines before marked as empty\n",
-        b"# Entitlement: other lines after marked as empty\n",
-    );
+        "# Entitlement: altered lines before marked as empty",
+        "# Entitlement: altered lines after marked as empty",
+        "# Entitlement: other lines before marked as empty",
+        "# Entitlement: other lines after marked as empty",
+    )?;
     let none = without_entry(true);
     show_trial(
-        b"# Entitlement: all four marked as empty\n",
+        rt,
+        "# Entitlement: all four marked as empty",
         layout(none, none),
         layout(none, none),
-    );
+    )?;
     show_trial(
-        b"# Entitlement: many trains by night\n",
+        rt,
+        "# Entitlement: many trains by night",
         layout(lines(1, 0, false), few),
         layout(lines(1, 2000, false), few),
-    );
+    )
 }

@@ -2,7 +2,7 @@
 use crate::additions::{plain_segment, show, show_kept_speed, with_segments, with_trains};
 use crate::put;
 use figures::{Period, Segment, Train};
-use libc::STDOUT_FILENO;
+use std::io;
 use study::Study;
 
 const LEAST_LIMIT: i32 = -2147483648;
@@ -107,149 +107,161 @@ fn merged(first: Study, second: Study) -> Study {
     answer.study
 }
 
-fn show_limit(limit: i32) {
+fn show_limit(rt: &impl Print, limit: i32) -> io::Result<()> {
     let mut word = [0u8; 11];
     let end = writing::put_signed(&mut word, 0, limit);
     if end <= word.len() {
-        put(&word[..end]);
+        put(rt, &word[..end])?;
     }
+    Ok(())
 }
 
 // The speed is written of a refusal too, where it must be 0.
-fn show_speed(study: Study, entry: usize, period: Period, limit: i32) {
-    put(b"entry ");
-    io::print_decimal(STDOUT_FILENO, entry as u64);
+fn show_speed(
+    rt: &impl Print,
+    study: Study,
+    entry: usize,
+    period: Period,
+    limit: i32,
+) -> io::Result<()> {
     match period {
-        Period::Day => put(b" day limit "),
-        Period::Night => put(b" night limit "),
+        Period::Day => print!(rt; "entry {entry} day limit ")?,
+        Period::Night => print!(rt; "entry {entry} night limit ")?,
     }
-    show_limit(limit);
+    show_limit(rt, limit)?;
     let answer = speeds::highest_speed(study, entry, period, limit);
     let check = answer.check;
-    put(b" speed ");
-    io::print_decimal(STDOUT_FILENO, answer.speed as u64);
-    show(b"", check);
+    print!(rt; " speed {}", answer.speed)?;
+    show(rt, "", check)
 }
 
-fn show_speeds(study: Study, entry: usize, period: Period, limits: &[i32]) {
+fn show_speeds(
+    rt: &impl Print,
+    study: Study,
+    entry: usize,
+    period: Period,
+    limits: &[i32],
+) -> io::Result<()> {
     let mut at = 0;
     while at < limits.len() {
-        show_speed(study, entry, period, limits[at]);
+        show_speed(rt, study, entry, period, limits[at])?;
         at += 1;
     }
+    Ok(())
 }
 
 // 25 in place of 23, and before 26.
-fn show_absent() {
-    put(b"# Highest speed: the empty study\n");
+fn show_absent(rt: &impl Print) -> io::Result<()> {
+    println!(rt; "# Highest speed: the empty study")?;
     let empty = study::empty();
-    show_speed(empty, 0, Period::Day, 60);
-    show_speed(empty, 1, Period::Day, 60);
-    show_speed(empty, 96, Period::Day, 60);
-    show_speed(empty, 1, Period::Night, LEAST_LIMIT);
-    put(b"# Highest speed: segments without an entry\n");
+    show_speed(rt, empty, 0, Period::Day, 60)?;
+    show_speed(rt, empty, 1, Period::Day, 60)?;
+    show_speed(rt, empty, 96, Period::Day, 60)?;
+    show_speed(rt, empty, 1, Period::Night, LEAST_LIMIT)?;
+    println!(rt; "# Highest speed: segments without an entry")?;
     let segments = with_segments(2);
-    show_speed(segments, 0, Period::Day, 60);
-    show_speed(segments, 1, Period::Day, 60);
-    show_speed(segments, 2, Period::Night, LEAST_LIMIT);
+    show_speed(rt, segments, 0, Period::Day, 60)?;
+    show_speed(rt, segments, 1, Period::Day, 60)?;
+    show_speed(rt, segments, 2, Period::Night, LEAST_LIMIT)
 }
 
-fn show_worked() {
-    put(b"# Highest speed: three entries in two segments\n");
+fn show_worked(rt: &impl Print) -> io::Result<()> {
+    println!(rt; "# Highest speed: three entries in two segments")?;
     let study = worked_study();
-    show_speed(study, 0, Period::Day, 60);
+    show_speed(rt, study, 0, Period::Day, 60)?;
     show_speeds(
+        rt,
         study,
         1,
         Period::Day,
         &[50, 60, 64, 66, 67, 68, 70, 75, LEAST_LIMIT, MOST_LIMIT],
-    );
-    show_speeds(study, 1, Period::Night, &[43, 44, 50, LEAST_LIMIT]);
-    show_speeds(study, 2, Period::Day, &[64, 66]);
-    show_speeds(study, 2, Period::Night, &[30, 43, 50]);
-    show_speeds(study, 3, Period::Day, &[64, 65]);
-    show_speeds(study, 3, Period::Night, &[43, 44, 45]);
-    show_speed(study, 4, Period::Day, 60);
-    show_speed(study, 18446744073709551615, Period::Day, 60);
+    )?;
+    show_speeds(rt, study, 1, Period::Night, &[43, 44, 50, LEAST_LIMIT])?;
+    show_speeds(rt, study, 2, Period::Day, &[64, 66])?;
+    show_speeds(rt, study, 2, Period::Night, &[30, 43, 50])?;
+    show_speeds(rt, study, 3, Period::Day, &[64, 65])?;
+    show_speeds(rt, study, 3, Period::Night, &[43, 44, 45])?;
+    show_speed(rt, study, 4, Period::Day, 60)?;
+    show_speed(rt, study, 18446744073709551615, Period::Day, 60)
 }
 
 // A refused train counts as no entry, and a refused segment takes none.
-fn show_refusals() {
-    put(b"# Highest speed: refused additions around each entry\n");
+fn show_refusals(rt: &impl Print) -> io::Result<()> {
+    println!(rt; "# Highest speed: refused additions around each entry")?;
     let study = with_refusals();
-    show_speed(study, 1, Period::Day, 68);
-    show_speed(study, 2, Period::Day, 66);
-    show_speed(study, 2, Period::Night, 43);
-    show_speed(study, 3, Period::Night, 44);
-    show_speed(study, 4, Period::Day, 68);
+    show_speed(rt, study, 1, Period::Day, 68)?;
+    show_speed(rt, study, 2, Period::Day, 66)?;
+    show_speed(rt, study, 2, Period::Night, 43)?;
+    show_speed(rt, study, 3, Period::Night, 44)?;
+    show_speed(rt, study, 4, Period::Day, 68)
 }
 
 // A speed that crawls is kept as typed, and answered from 20 km/h on.
-fn show_slow() {
-    put(b"# Highest speed: a train at 7 km/h\n");
+fn show_slow(rt: &impl Print) -> io::Result<()> {
+    println!(rt; "# Highest speed: a train at 7 km/h")?;
     let study = with_train(with_segments(1), train(1, 7, 1, 1, 1));
-    show_speeds(study, 1, Period::Day, &[28, 29, 42, 52, 53]);
-    show_speeds(study, 1, Period::Night, &[33, 34]);
-    show_kept_speed(study);
+    show_speeds(rt, study, 1, Period::Day, &[28, 29, 42, 52, 53])?;
+    show_speeds(rt, study, 1, Period::Night, &[33, 34])?;
+    show_kept_speed(rt, study)
 }
 
 // The last of 96 entries, after which a train was refused.
-fn show_full() {
-    put(b"# Highest speed: 96 entries\n");
+fn show_full(rt: &impl Print) -> io::Result<()> {
+    println!(rt; "# Highest speed: 96 entries")?;
     let quiet = with_trains(with_segments(1), 95);
     let loud = with_train(quiet, train(1, 100, 10, 100, 1));
     let study = with_trains(loud, 1);
-    show_speeds(study, 1, Period::Day, &[72, 73]);
-    show_speed(study, 96, Period::Day, 68);
-    show_speed(study, 97, Period::Day, 68);
+    show_speeds(rt, study, 1, Period::Day, &[72, 73])?;
+    show_speed(rt, study, 96, Period::Day, 68)?;
+    show_speed(rt, study, 97, Period::Day, 68)
 }
 
 // An entry that is silent in the period beside one that is not, and both silent.
-fn show_silent() {
-    put(b"# Highest speed: no trains by night\n");
+fn show_silent(rt: &impl Print) -> io::Result<()> {
+    println!(rt; "# Highest speed: no trains by night")?;
     let parked = with_train(with_segments(1), train(1, 100, 1, 0, 0));
     let study = with_train(parked, train(1, 100, 1, 1, 0));
     let limits = [LEAST_LIMIT, -1, 0, 60, MOST_LIMIT];
-    show_speeds(study, 1, Period::Night, &limits);
-    show_speeds(study, 2, Period::Night, &limits);
-    show_speeds(study, 1, Period::Day, &[42, 43]);
-    show_speed(study, 2, Period::Day, 42);
+    show_speeds(rt, study, 1, Period::Night, &limits)?;
+    show_speeds(rt, study, 2, Period::Night, &limits)?;
+    show_speeds(rt, study, 1, Period::Day, &[42, 43])?;
+    show_speed(rt, study, 2, Period::Day, 42)
 }
 
 // Halves go up below zero too.
-fn show_faint() {
-    put(b"# Highest speed: a total below zero\n");
+fn show_faint(rt: &impl Print) -> io::Result<()> {
+    println!(rt; "# Highest speed: a total below zero")?;
     let study = with_one(faint_segment(), train(9, 20, 1, 1, 1));
-    show_speeds(study, 1, Period::Day, &[-38, -37, 0]);
-    show_speeds(study, 1, Period::Night, &[-33, -32]);
+    show_speeds(rt, study, 1, Period::Day, &[-38, -37, 0])?;
+    show_speeds(rt, study, 1, Period::Night, &[-33, -32])
 }
 
-fn show_merged() {
-    put(b"# Highest speed: a merged study\n");
+fn show_merged(rt: &impl Print) -> io::Result<()> {
+    println!(rt; "# Highest speed: a merged study")?;
     let study = merged(worked_study(), other_study());
-    show_speeds(study, 1, Period::Day, &[60, 66]);
-    show_speeds(study, 4, Period::Day, &[65, 66, 68]);
-    show_speeds(study, 4, Period::Night, &[44, 60, 66]);
-    show_speed(study, 5, Period::Day, 68);
-    put(b"# Highest speed: merged the other way round\n");
+    show_speeds(rt, study, 1, Period::Day, &[60, 66])?;
+    show_speeds(rt, study, 4, Period::Day, &[65, 66, 68])?;
+    show_speeds(rt, study, 4, Period::Night, &[44, 60, 66])?;
+    show_speed(rt, study, 5, Period::Day, 68)?;
+    println!(rt; "# Highest speed: merged the other way round")?;
     let turned = merged(other_study(), worked_study());
-    show_speed(turned, 1, Period::Night, 66);
-    show_speed(turned, 2, Period::Day, 66);
-    show_speed(turned, 5, Period::Day, 66);
-    put(b"# Highest speed: a refused merge\n");
+    show_speed(rt, turned, 1, Period::Night, 66)?;
+    show_speed(rt, turned, 2, Period::Day, 66)?;
+    show_speed(rt, turned, 5, Period::Day, 66)?;
+    println!(rt; "# Highest speed: a refused merge")?;
     let first = with_trains(with_segments(12), 48);
     let refused = merged(first, with_trains(with_segments(13), 1));
-    show_speeds(refused, 48, Period::Day, &[59, 60]);
-    show_speed(refused, 49, Period::Day, 60);
+    show_speeds(rt, refused, 48, Period::Day, &[59, 60])?;
+    show_speed(rt, refused, 49, Period::Day, 60)
 }
 
-pub(crate) fn show_each() {
-    show_absent();
-    show_worked();
-    show_refusals();
-    show_slow();
-    show_full();
-    show_silent();
-    show_faint();
-    show_merged();
+pub(crate) fn show_each(rt: &impl Print) -> io::Result<()> {
+    show_absent(rt)?;
+    show_worked(rt)?;
+    show_refusals(rt)?;
+    show_slow(rt)?;
+    show_full(rt)?;
+    show_silent(rt)?;
+    show_faint(rt)?;
+    show_merged(rt)
 }

@@ -11,10 +11,14 @@ mod merges;
 
 ghost use Rattle.std.specs.Prelude.{◌≤◌, length};
 
-use libc::{STDIN_FILENO, STDOUT_FILENO};
+use std::io;
+use std::io::Read;
 
-pub(crate) fn put(bytes: &[u8]) {
-    io::write_all(STDOUT_FILENO, bytes);
+// How much of the list is read.
+const MOST_BYTES: u64 = 65536;
+
+pub(crate) fn put(rt: &impl Print, bytes: &[u8]) -> io::Result<()> {
+    rt.write_all(bytes)
 }
 
 // The position of the first such byte from a position on, or the length where there is none.
@@ -33,36 +37,38 @@ fn find(list: &[u8], start: usize, byte: u8) -> usize
 }
 
 // Writes the breakdown of a text.
-fn show(text: &[u8]) {
+fn show(rt: &impl Print, text: &[u8]) -> io::Result<()> {
     let mut out = [0u8; 32768];
     let count = breakdown::put_text(text, &mut out, 0);
     if count <= out.len() {
-        put(&out[..count]);
+        put(rt, &out[..count])?;
     }
+    Ok(())
 }
 
 // Writes each text of a list under its title.
-fn show_each(list: &[u8]) {
+fn show_each(rt: &impl Print, list: &[u8]) -> io::Result<()> {
     let mut at = 0;
     while at < list.len() {
         let end = find(list, at, b'\n');
         if list.len() <= end {
-            return;
+            return Ok(());
         }
         let start = end + 1;
         let next = find(list, start, b'#');
-        put(&list[at..start]);
-        show(&list[start..next]);
+        put(rt, &list[at..start])?;
+        show(rt, &list[start..next])?;
         at = next;
     }
+    Ok(())
 }
 
-fn main() {
-    let mut list = [0u8; 65536];
-    let length = io::read_full(STDIN_FILENO, &mut list);
-    show_each(&list[..length]);
-    additions::show_each();
-    entitlements::show_each();
-    merges::show_each();
-    highest_speeds::show_each();
+fn main(rt: HostRuntime) -> io::Result<()> {
+    let mut list = Vec::new(rt.alloc());
+    rt.stdin().take(MOST_BYTES).read_to_end(&mut list)?;
+    show_each(&rt, &list)?;
+    additions::show_each(&rt)?;
+    entitlements::show_each(&rt)?;
+    merges::show_each(&rt)?;
+    highest_speeds::show_each(&rt)
 }

@@ -1,8 +1,7 @@
 // Merges of studies that no two texts can show: studies without entries, the empty study, and what a refused merge gives back.
 use crate::additions::{plain_segment, show, with_segments, with_trains};
 use crate::entitlements::show_level;
-use crate::put;
-use libc::STDOUT_FILENO;
+use std::io;
 use study::Study;
 
 // Segments at 10 m, and trains at the last of them.
@@ -17,74 +16,76 @@ fn far(trains: usize) -> Study {
 }
 
 // Writes whether two studies are merged, how many segments and entries the answer's study has, and its levels in tenths.
-fn show_trial(title: &[u8], first: Study, second: Study) {
-    put(title);
+fn show_trial(rt: &impl Print, title: &str, first: Study, second: Study) -> io::Result<()> {
+    println!(rt; "{title}")?;
     let merged = merging::merge(first, second);
     let check = merged.check;
-    show(b"merge", check);
+    show(rt, "merge", check)?;
     let held = study::holdings_of(merged.study);
-    put(b"holds segments ");
-    io::print_decimal(STDOUT_FILENO, held.count as u64);
-    put(b" entries ");
-    io::print_decimal(STDOUT_FILENO, held.total as u64);
-    put(b"\n");
+    println!(rt; "holds segments {} entries {}", held.count, held.total)?;
     let mut cells = [0i32; 192];
     let answer = request::levels(merged.study, &mut cells);
     let asked = answer.check;
-    show(b"levels", asked);
+    show(rt, "levels", asked)?;
     let day = answer.day;
     let night = answer.night;
     let by_day = day.level;
     let by_night = night.level;
-    show_level(b"heard day", by_day);
-    show_level(b" night", by_night);
-    put(b"\n");
+    show_level(rt, "heard day", by_day)?;
+    show_level(rt, " night", by_night)?;
+    println!(rt)
 }
 
 // 24 segments and 96 entries together, and one more of either or of both.
-fn show_limits() {
+fn show_limits(rt: &impl Print) -> io::Result<()> {
     let first = near(12, 48);
     show_trial(
-        b"# Merge: 24 segments and 96 entries together\n",
+        rt,
+        "# Merge: 24 segments and 96 entries together",
         first,
         near(12, 48),
-    );
-    show_trial(b"# Merge: 25 segments together\n", first, near(13, 1));
-    show_trial(b"# Merge: 97 entries together\n", first, near(12, 49));
+    )?;
+    show_trial(rt, "# Merge: 25 segments together", first, near(13, 1))?;
+    show_trial(rt, "# Merge: 97 entries together", first, near(12, 49))?;
     show_trial(
-        b"# Merge: 25 segments and 97 entries together\n",
+        rt,
+        "# Merge: 25 segments and 97 entries together",
         first,
         near(13, 49),
-    );
+    )
 }
 
 // Studies without entries on either side.
-fn show_unheard() {
+fn show_unheard(rt: &impl Print) -> io::Result<()> {
     show_trial(
-        b"# Merge: a first study without an entry\n",
+        rt,
+        "# Merge: a first study without an entry",
         near(1, 0),
         far(1),
-    );
+    )?;
     show_trial(
-        b"# Merge: a second study without an entry\n",
+        rt,
+        "# Merge: a second study without an entry",
         far(1),
         near(1, 0),
-    );
+    )?;
     show_trial(
-        b"# Merge: two studies without an entry\n",
+        rt,
+        "# Merge: two studies without an entry",
         near(1, 0),
         far(0),
-    );
-    show_trial(b"# Merge: with the empty study\n", far(1), study::empty());
-    show_trial(b"# Merge: to the empty study\n", study::empty(), far(1));
+    )?;
+    show_trial(rt, "# Merge: with the empty study", far(1), study::empty())?;
+    show_trial(rt, "# Merge: to the empty study", study::empty(), far(1))?;
     show_trial(
-        b"# Merge: the empty study twice\n",
+        rt,
+        "# Merge: the empty study twice",
         study::empty(),
         study::empty(),
-    );
+    )
 }
 
-pub(crate) fn show_each() {
-    show_limits();
-    show_unheard();
+pub(crate) fn show_each(rt: &impl Print) -> io::Result<()> {
+    show_limits(rt)?;
+    show_unheard(rt)
 }
