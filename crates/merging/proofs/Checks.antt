@@ -1,6 +1,6 @@
 -- Whether two studies are few enough for one: 21, then 22, and what the answer is by it.
 -- Assumes nothing.
-use mathlib.Core.Path.{◌≡◌, ap, ◌∙◌}
+use mathlib.Core.Path.{◌≡◌, sym, ap, ◌∙◌}
 use Prim.Native.Nat.{ℕ, ◌+◌, ◌≤◌, ◌<◌}
 use native.Mathlib.Nat.{lt_of_not-le}
 use native.Mathlib.Decide.{dec_le}
@@ -80,6 +80,17 @@ limits_number_lem l segments entries = simp unless_number
 
 pub limits_numbered : (l : Limits) (segments entries : ℕ) {r : Check} → r ≡ limits_check l segments entries → (r ≡ limits_check l segments entries) × (check_number r ≡ limits_number l segments entries)
 limits_numbered l segments entries e = (e, ap check_number e ∙ limits_number_lem l segments entries)
+
+-- the same of each answer that the function gives: no file names its tests, so an edit of a test fails on the promise
+module _ (l : Limits) (segments entries : ℕ) where
+  pub segments_over_number : l.segments < segments → check_number (Refused SegmentLimit) ≡ limits_number l segments entries
+  segments_over_number h = (limits_numbered l segments entries (sym (segments_over l segments entries h))).1
+
+  pub entries_over_number : segments ≤ l.segments → l.entries < entries → check_number (Refused EntryLimit) ≡ limits_number l segments entries
+  entries_over_number few h = (limits_numbered l segments entries (sym (entries_over l segments entries few h))).1
+
+  pub both_within_number : segments ≤ l.segments → entries ≤ l.entries → check_number Accepted ≡ limits_number l segments entries
+  both_within_number few h = (limits_numbered l segments entries (sym (both_within l segments entries few h))).1
 
 pub merged_number : (l : Limits) (first second : Study) {r : Added} → r ≡ merged l first second
     → (r ≡ merged l first second) × (check_number r.check ≡ merge_number l (plan_of first) (plan_of second))

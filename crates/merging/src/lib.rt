@@ -11,6 +11,7 @@ use figures::{Check, Refusal};
 use study::{Added, MOST_ENTRIES, MOST_SEGMENTS, Study, extended, holdings_of};
 
 // Whether a study may hold so many segments and so many train entries: 21, then 22.
+#[tactic(auto, using(crate::proofs::Checks::segments_over, crate::proofs::Checks::entries_over, crate::proofs::Checks::both_within, crate::proofs::Checks::segments_over_number, crate::proofs::Checks::entries_over_number, crate::proofs::Checks::both_within_number))]
 pub fn limits_check(segments: usize, entries: usize) -> Check
     ensures is { result ≡ limits_check ours segments entries }
     ensures number { check_number result ≡ limits_number ours segments entries }
