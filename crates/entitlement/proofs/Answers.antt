@@ -26,7 +26,7 @@ use Rattle.entitlement.proofs.Reports.{reported_held, study_allowed, both_accept
 pub house-is : (day night : Change) {x y : PeriodEntitlement} {r : Entitlement} → x ≡ period_of Day (held_change day) → y ≡ period_of Night (held_change night)
     → r ≡ record { check = Accepted; day = x; night = y; entitled = x.entitled || y.entitled } → EntitlementAnsweredBy day night r
 unfolding entitlement_by
-house-is day night e f g = record { answer = g ∙ rw (e, f); by_day_lem = change_allowed day; by_night_lem = change_allowed night }
+house-is day night e f g = record { answer = g ∙ rw (e, f); by_day = change_allowed day; by_night = change_allowed night }
 
 -- ---- from studies
 

@@ -30,10 +30,10 @@ exceeds (Figure tenths) (Figure other) = le_z (other +ℤ pos 10) tenths
 -- from the prevailing level, the relevant level, and the level of the other lines after the works: (i) the relevant level reaches the limit on whole decibels,
 -- (ii) it exceeds the prevailing level and (iii) the other lines after, each by at least 1.0 dB. "A period is entitled when all three hold"
 unfoldable pub period_by : Period → Total → Total → Level → PeriodEntitlement
-period_by p prevailing relevant otherAfter =
+period_by p prevailing relevant other_after =
     let reaches = met_by p relevant.level in
     let rises = exceeds relevant.level prevailing.level in
-    let contributes = exceeds relevant.level otherAfter in
+    let contributes = exceeds relevant.level other_after in
     record { prevailing = prevailing; relevant = relevant; reaches = reaches; rises = rises; contributes = contributes; entitled = reaches && (rises && contributes) }
 
 -- "The two before combine .. into the prevailing level, the two after into the relevant level"

@@ -90,8 +90,8 @@ held_change c = record { before = held_levels c.before; after = held_levels c.af
 -- of any levels
 pub record EntitlementAnsweredBy (day night : Change) (r : Entitlement) : Type 0 where
   pub answer : r ≡ entitlement_by (held_change day) (held_change night)
-  pub by_day_lem : ChangeAllowed (held_change day)
-  pub by_night_lem : ChangeAllowed (held_change night)
+  pub by_day : ChangeAllowed (held_change day)
+  pub by_night : ChangeAllowed (held_change night)
 
 -- of a study's marks, and of the two in a layout
 abbrev pub StudyAllowed : Lines → Type 0

@@ -29,11 +29,11 @@ pub record SilenceMeans : Type 0 where
   -- two levels combined are silent only where both are
   pub both_silent : (a b : Level) → (combined a b).level ≡ Silent → (a ≡ Silent) × (b ≡ Silent)
   -- where the relevant level is silent, no condition holds, whatever the others are
-  pub relevant_silent : (p : Period) (prevailing relevant : Total) (otherAfter : Level) → relevant.level ≡ Silent
-      → period_by p prevailing relevant otherAfter ≡ record { prevailing = prevailing; relevant = relevant; reaches = false; rises = false; contributes = false; entitled = false }
+  pub relevant_silent : (p : Period) (prevailing relevant : Total) (other_after : Level) → relevant.level ≡ Silent
+      → period_by p prevailing relevant other_after ≡ record { prevailing = prevailing; relevant = relevant; reaches = false; rises = false; contributes = false; entitled = false }
   -- a figure rises above a silent prevailing level, however low it is
-  pub prevailing_silent : (p : Period) (prevailing relevant : Total) (otherAfter : Level) (f : ℤ) → prevailing.level ≡ Silent → relevant.level ≡ Figure f
-      → (period_by p prevailing relevant otherAfter).rises ≡ true
+  pub prevailing_silent : (p : Period) (prevailing relevant : Total) (other_after : Level) (f : ℤ) → prevailing.level ≡ Silent → relevant.level ≡ Figure f
+      → (period_by p prevailing relevant other_after).rises ≡ true
   -- and the altered lines contribute where the other lines after are silent
   pub other_silent : (p : Period) (prevailing relevant : Total) (f : ℤ) → relevant.level ≡ Figure f → (period_by p prevailing relevant Silent).contributes ≡ true
   -- where the altered lines after are silent, they contribute nothing, so the period is not entitled

@@ -62,14 +62,14 @@ layout_of altered other = record { altered = given_lines altered; other = given_
 
 -- the altered lines before and after the works, the other lines before and after, in the order of C's parameters
 unfoldable pub entitlement_in : Source → Source → Source → Source → RailnoiseEntitlementAnswer
-entitlement_in alteredBefore alteredAfter otherBefore otherAfter =
-    read_at 1 alteredBefore (read_at 2 alteredAfter (read_at 3 otherBefore (read_at 4 otherAfter
-    (exported_entitlement (entitlement_of (layout_of alteredBefore otherBefore) (layout_of alteredAfter otherAfter)) 0 0))))
+entitlement_in altered_before altered_after other_before other_after =
+    read_at 1 altered_before (read_at 2 altered_after (read_at 3 other_before (read_at 4 other_after
+    (exported_entitlement (entitlement_of (layout_of altered_before other_before) (layout_of altered_after other_after)) 0 0))))
 
 -- the whole of a call: by the program's own marks, and 01 allows these
-pub record EntitlementCalled (alteredBefore alteredAfter otherBefore otherAfter : Source) (r : RailnoiseEntitlementAnswer) : Type 0 where
-  pub answer : r ≡ entitlement_in alteredBefore alteredAfter otherBefore otherAfter
-  pub allowed : EntitlementAllowed (layout_of alteredBefore otherBefore) (layout_of alteredAfter otherAfter)
+pub record EntitlementCalled (altered_before altered_after other_before other_after : Source) (r : RailnoiseEntitlementAnswer) : Type 0 where
+  pub answer : r ≡ entitlement_in altered_before altered_after other_before other_after
+  pub allowed : EntitlementAllowed (layout_of altered_before other_before) (layout_of altered_after other_after)
 
 -- ---- what a caller can rely on beside the equation. Proved as `entitlement_calls` in proofs/Refusals.antt
 

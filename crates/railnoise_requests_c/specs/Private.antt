@@ -21,8 +21,8 @@ pub record TextReports (s : Source) (r : TextReport) : Type 0 where
 
 -- a period's levels: of the altered lines before and after, and of the other lines before and after
 abbrev pub change_of : Level → Level → Level → Level → Change
-change_of alteredBefore alteredAfter otherBefore otherAfter =
-    record { before = record { altered = alteredBefore; other = otherBefore }; after = record { altered = alteredAfter; other = otherAfter } }
+change_of altered_before altered_after other_before other_after =
+    record { before = record { altered = altered_before; other = other_before }; after = record { altered = altered_after; other = other_after } }
 
 abbrev pub by_day : TextReport → TextReport → TextReport → TextReport → Change
 by_day first second third fourth = change_of first.day second.day third.day fourth.day

@@ -17,26 +17,26 @@ use Rattle.words.proofs.Notices.{notice_length}
 use Rattle.report.specs.Report.{answer_lines, refusal_line, cells_lent, report_by, notice_by, report_of, notice_for, report_room, Reported}
 use Rattle.report.proofs.Lines.{refusal_length}
 
-pub text_answered : (text : List ℕ) {out notice outAfter : List ℕ} {before after : List ℤ} {r : TextAnswer} {count : ℕ}
+pub text_answered : (text : List ℕ) {out notice out_after : List ℕ} {before after : List ℤ} {r : TextAnswer} {count : ℕ}
     → TextAnswered text before after r
     → length before ≡ cells_lent
     → r.check ≡ Accepted
-    → Put out 0 (answer_lines r.day r.night) outAfter count
+    → Put out 0 (answer_lines r.day r.night) out_after count
     → length (answer_lines r.day r.night) ≤ report_room
-    → Reported text out notice outAfter notice (record { output = count; notice = 0 })
+    → Reported text out notice out_after notice (record { output = count; notice = 0 })
 unfolding report_of notice_for report_by notice_by
 text_answered text {notice = notice} q k h p l =
     let e : ◌≡◌ {A = TextAnswer} _ _ = rw k at q.answer in
     record { output = rw (← e, h) p; output_room = rw (← e, h) l; told = rw (← e, h) (put_nothing notice 0); told_room = rw (← e, h) (omega arith); allowed = q.allowed }
 
-pub text_refused : (text : List ℕ) {out notice outAfter noticeAfter : List ℕ} {before after : List ℤ} {r : TextAnswer} (why : Refusal) {count told : ℕ}
+pub text_refused : (text : List ℕ) {out notice out_after notice_after : List ℕ} {before after : List ℤ} {r : TextAnswer} (why : Refusal) {count told : ℕ}
     → TextAnswered text before after r
     → length before ≡ cells_lent
     → r.check ≡ Refused why
     → r.line < 2 ^ 64
-    → Put out 0 (refusal_line why r.line) outAfter count
-    → Put notice 0 (notice_of why r.line) noticeAfter told
-    → Reported text out notice outAfter noticeAfter (record { output = count; notice = told })
+    → Put out 0 (refusal_line why r.line) out_after count
+    → Put notice 0 (notice_of why r.line) notice_after told
+    → Reported text out notice out_after notice_after (record { output = count; notice = told })
 unfolding report_of notice_for report_by notice_by
 text_refused text {r = r} why q k h l p n =
     let e : ◌≡◌ {A = TextAnswer} _ _ = rw k at q.answer in

@@ -67,9 +67,9 @@ abbrev pub notice_room : ℕ
 notice_room = 450
 
 -- what the report of a text ensures: it and the notice stand at the front of what is lent for them, and 01 allows the marks
-pub record Reported (text out notice outAfter noticeAfter : List ℕ) (r : Written) : Type 0 where
-  pub output : Put out 0 (report_of text) outAfter r.output
+pub record Reported (text out notice out_after notice_after : List ℕ) (r : Written) : Type 0 where
+  pub output : Put out 0 (report_of text) out_after r.output
   pub output_room : length (report_of text) ≤ report_room
-  pub told : Put notice 0 (notice_for text) noticeAfter r.notice
+  pub told : Put notice 0 (notice_for text) notice_after r.notice
   pub told_room : length (notice_for text) ≤ notice_room
   pub allowed : MarksAllowed (plan_in text) (own_marks (plan_in text))
