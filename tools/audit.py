@@ -6,9 +6,9 @@
 - a must-fail edit says what would go wrong, and each of its old texts stands once in its file and is changed
 - a function of the product has fewer than 40 lines, its contract not counted
 - an antt file has at most 300 lines
-- no six lines stand twice; blank lines, comments and imports are not counted
+- no six lines stand twice; blank lines, comments, imports and attributes are not counted
 - no file is of a kind that its folder does not hold; every module of specs/ and proofs/ is listed in its Lib.antt, and every folder of
-  proofs/ that has a Proof.antt is named after a function
+  proofs/ that has an Answers.antt, Invariants.antt or Proof.antt is named after a function
 - no import is unused, and no definition is there that nothing cites (tools/citations.py)
 
 Run it at the root: python3 tools/audit.py
@@ -38,11 +38,13 @@ HELD = {
     "include": {".h"},
     "tools": {".py", ".sh", ".json"},
 }
-FILLED = {"target", "build", "__pycache__", ".git"}
+FILLED = {"target", "build", "out", "__pycache__", ".git"}
+# What a function's folder of proofs/ holds.
+PROOFS = {"Answers.antt", "Invariants.antt", "Proof.antt"}
 # Definitions that nothing cites yet and that stay all the same, with the reason.
 UNCITED = {
-    "factor-low": "for the fine level of a change request: what a factor takes off at least",
-    "factor-high": "for the fine level of a change request: what a factor takes off at most",
+    "factor_low": "for the fine level of a change request: what a factor takes off at least",
+    "factor_high": "for the fine level of a change request: what a factor takes off at most",
 }
 
 FUNCTION = re.compile(
@@ -56,7 +58,7 @@ CONTRACT = re.compile(r"^[ \t]+(?:requires|ensures)\b.*", re.M | re.S)
 # Lines that do not count as repeated, by the file's suffix.
 UNCOUNTED = {
     ".antt": r"--|(pub )?(use|mod)\b",
-    ".rt": r"//|(pub )?(ghost )?(use|mod)\b",
+    ".rt": r"//|#!?\[|(pub )?(ghost )?(use|mod)\b",
     ".rs": r"//|(pub )?(use|mod)\b",
     ".c": r"//|/\*|\*( |/|$)|#include\b",
     ".h": r"//|/\*|\*( |/|$)|#include\b",
@@ -71,7 +73,7 @@ RUN = 6
 def files(patterns):
     """The files of some patterns; what builds have left below host/ is no source."""
     found = {path for pattern in patterns for path in pathlib.Path(".").glob(pattern)}
-    return sorted(path for path in found if not {"target", "build"} & set(path.parts) and path.as_posix() not in TABLES)
+    return sorted(path for path in found if not FILLED & set(path.parts) and path.as_posix() not in TABLES)
 
 
 def function_faults(path):
@@ -176,8 +178,8 @@ def stray_proofs():
             for path in sorted(folder.glob("*.antt")):
                 if path != library and path.stem not in listed:
                     yield f"{path}: no module of {library}"
-        for path in sorted(crate.glob("proofs/**/Proof.antt")):
-            if path.parent.name.lstrip("+") not in functions:
+        for path in sorted(crate.glob("proofs/*/**/*.antt")):
+            if path.name in PROOFS and path.parent.name.lstrip("+") not in functions:
                 yield f"{path}: there is no function {path.parent.name}"
 
 

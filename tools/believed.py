@@ -28,7 +28,7 @@ ROOTS = {
     "Demand3": "a total is accurate to 0.46 dB",
     "Demand3Sharp": "the narrowest band that the proof gives",
     "CallAccurate": "the same of what C is handed",
-    "accepted-text-is-run": "an accepted text's study is the run of its additions, so that demand 3 is said of it and of what is added to it",
+    "accepted_text_is_run": "an accepted text's study is the run of its additions, so that demand 3 is said of it and of what is added to it",
     "Readings": "the starred readings",
     "SilenceMeans": "what silence and a mark of emptiness mean for entitlement",
     "EntitlementCalls": "which refusals its C function gives, and that a marked text makes no difference",
@@ -39,18 +39,18 @@ ROOTS = {
     "SlowTrains": "which speeds are refused, and that a train below 20 km/h is heard as at 20",
     "SpeedLaws": "when each refusal of a highest speed comes, that every lower speed is safe too, and how far rounding carries the answer",
     "SpeedCalls": "the same of what C is handed of a text, and which refusals it gets",
-    "total-rises": "a total never falls where levels rise",
-    "cells-rise": "the same over working cells",
+    "total_rises": "a total never falls where levels rise",
+    "cells_rise": "the same over working cells",
     # the formulas are believed by these: contracts state fences and tenths by whole numbers alone, and these say whose they are
-    "segment-fences": "each fence of a segment's steps is that of the step's exact value",
-    "train-fences": "the same of a train's steps",
-    "nearest-exact": "the nearest tenth of a fence is that of the exact value",
-    "ground-settled": "an allowed close mark gives ground the louder neighbour or the nearest",
-    "total-settled": "the same of a total",
+    "segment_fences": "each fence of a segment's steps is that of the step's exact value",
+    "train_fences": "the same of a train's steps",
+    "nearest_exact": "the nearest tenth of a fence is that of the exact value",
+    "ground_settled": "an allowed close mark gives ground the louder neighbour or the nearest",
+    "total_settled": "the same of a total",
 }
 
-MODULE = re.compile(r"Rattle·(?P<crate>\w+)(?:·specs|·proofs)?\.(?P<folder>specs|proofs)\.(?P<module>.+)")
-WORD = re.compile(r"[^\s(){};,⌜⌝\"]+")
+MODULE = re.compile(r"Rattle\.(?P<crate>\w+)\.(?P<folder>specs|proofs)\.(?P<module>.+)")
+WORD = re.compile(r"[^\s(){};,\"]+")
 MEMBER = re.compile(r"^ {2,4}(?:pub )?(\S+) :(?=\s)", re.M)
 BINDERS = [
     re.compile(r"[({]\s*([^\s(){}:;=][^(){}:;=]*?)\s+:\s"),  # (a b : A), {a : A}

@@ -1,27 +1,34 @@
 """What the .rt and .antt files of the crates bring in and define, and which of it nothing uses. Used by tools/audit.py and believed.py.
 
 A name counts as used where it stands as a word outside comments and imports. A definition counts as cited where its own file uses it
-outside of it, where a file that imports it uses it, or where a page or a comment names it in backticks: a theorem is the end of its line.
+outside of it, where a file that imports it uses it, where the attribute of a function names it by its path, or where a page or a comment
+names it in backticks: a theorem is the end of its line. What a function's Invariants.antt and Answers.antt give to its goals is taken by
+the check.
 """
 import pathlib
 import re
 
-IMPORT = re.compile(r"^[ \t]*(?:ghost[ ])?use[ ](?P<path>[^{;\n]+?)(?:\.\{(?P<names>[^}]*)\})?(?:[ ]as[ ](?P<alias>\S+?))?;?[ \t]*$", re.M)
+IMPORT = re.compile(r"^[ \t]*(?:ghost[ ])?use[ ](?P<path>[^{;\n]+?)(?:(?:\.|::)\{(?P<names>[^}]*)\})?(?:[ ]as[ ](?P<alias>\S+?))?;?[ \t]*$", re.M)
+# what a function's attribute hands to tactics, as in #[tactic(auto, unfolding(crate::specs::Refusal::unless))]
+HANDED = re.compile(r"\b(?:\w+::)+(?P<module>\w+)::(?P<name>[^\s:,()]+)(?=[,)])")
+ATTRIBUTE = re.compile(r"#!?\[tactic\([^\]]*\]")
 COMMENT = {".antt": re.compile(r"(?:^|(?<=\s))--(?=\s|$).*"), ".rt": re.compile(r"//.*")}
 # a definition of antt: its signature at the left margin or in a module, or a type
 DEFINED = re.compile(r"^(?P<indent>(?:  )?)(?:pub |abbrev |unfoldable |private )*(?:(?:record|data) (?P<type>[^\s:(){}]+)|(?P<name>[^\s:(){}]+) :(?=\s))")
+# a definition that its file gives to a goal of the function
+GIVEN = re.compile(r"^(?:pub |abbrev )*(?P<name>[^\s:(){}]+) : (?P<alias>\w+)\.(?P=name)$")
 RATTLE_DEFINED = re.compile(r"^[ \t]*(?P<pub>pub |pub\(crate\) )?(?P<extern>extern \"C\" )?(?:fn|struct|enum|const) (?P<name>\w+)", re.M)
 KEYWORDS = {"module", "let", "where", "record", "data", "ruleset"}
 
 
 def words(text):
     """The words of a text. A dot joins no word, since a field and a qualified name have one before them."""
-    return set(re.split(r"[\s(){}.,;⌜⌝\"]+", text)) | set(re.findall(r"[\w-]+", text))
+    return set(re.split(r"[\s(){}.,;\"]+", text)) | set(re.findall(r"[\w-]+", text))
 
 
 def parts(name):
-    """The words by which a name is used: _≡_ by ≡."""
-    return [part for part in name.split("_") if part] if name.startswith("_") or name.endswith("_") else [name]
+    """The words by which a name is used: ◌≡◌ by ≡."""
+    return [part for part in name.split("◌") if part]
 
 
 def used(name, text, found):
@@ -40,6 +47,8 @@ class Source:
         self.imports = []  # the module's path, the name there, the name here
         for match in IMPORT.finditer(text):
             self.imports += imported(match)
+        for attribute in ATTRIBUTE.findall(text) if path.suffix == ".rt" else []:
+            self.imports += ((match["module"], match["name"], match["name"]) for match in HANDED.finditer(attribute))
         self.text = IMPORT.sub(lambda match: "", text)
         self.words = words(self.text)
 
@@ -57,8 +66,8 @@ def imported(match):
 
 
 def sources(root="."):
-    paths = pathlib.Path(root).glob("crates/*/*/**/*")
-    return [Source(path) for path in sorted(paths) if path.suffix in COMMENT and "target" not in path.parts]
+    paths = (path for folder in ("src", "specs", "proofs") for path in pathlib.Path(root).glob(f"crates/*/{folder}/**/*"))
+    return [Source(path) for path in sorted(paths) if path.suffix in COMMENT]
 
 
 def unused_imports(all_sources):
@@ -110,6 +119,15 @@ def cited_elsewhere(name, module, all_sources):
     return False
 
 
+def taken(source):
+    """The definitions of a function's proof that the check takes: those of goals, and the proof of the whole."""
+    if source.path.name == "Proof.antt":
+        return {f"{source.path.parent.name}_spec"}
+    goals = {here for path, there, here in source.imports if there is None and path.rpartition(".")[2] in ("Goals", "Given")}
+    given = (GIVEN.match(line) for line in source.text.splitlines()) if source.path.name in ("Answers.antt", "Invariants.antt") else ()
+    return {match["name"] for match in given if match and match["alias"] in goals}
+
+
 def uncited_definitions(all_sources, pages):
     named = set(re.findall(r"`([^`\s]+)`", pages)).union(*(source.named for source in all_sources))
     for source in all_sources:
@@ -117,8 +135,7 @@ def uncited_definitions(all_sources, pages):
             yield from uncited_in_rattle(source, all_sources, named)
             continue
         for name, rest in blocks(source):
-            spec = source.path.name == "Proof.antt" and name.endswith("-spec")  # taken by the kit
-            if not (spec or name in named or used(name, rest, words(rest)) or cited_elsewhere(name, source.path.stem, all_sources)):
+            if not (name in taken(source) or name in named or used(name, rest, words(rest)) or cited_elsewhere(name, source.path.stem, all_sources)):
                 yield source.path, name
 
 

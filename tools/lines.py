@@ -25,7 +25,7 @@ NOT_BELIEVED = {"Private.antt", "Parts.antt", "Lists.antt"}
 
 
 def tree_files():
-    for path in sorted(pathlib.Path("crates").glob("**/*")):
+    for path in sorted(path for folder in FOLDERS for path in pathlib.Path("crates").glob(f"*/{folder}/**/*")):
         if path.suffix in UNCOUNTED:
             yield path, path.read_text()
 
