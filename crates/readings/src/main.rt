@@ -9,13 +9,10 @@ mod entitlements;
 mod highest_speeds;
 mod merges;
 
-ghost use Rattle.std.specs.Prelude.{◌≤◌, length};
+ghost use Rattle.std.specs.Prelude.{◌≤◌, length, IfOk};
 
 use std::io;
 use std::io::Read;
-
-// How much of the list is read.
-const MOST_BYTES: u64 = 65536;
 
 pub(crate) fn put(rt: &impl Print, bytes: &[u8]) -> io::Result<()> {
     rt.write_all(bytes)
@@ -63,10 +60,24 @@ fn show_each(rt: &impl Print, list: &[u8]) -> io::Result<()> {
     Ok(())
 }
 
+// Reads until the list is full or the input ends: where no room is left, a read takes nothing.
+fn read_list(input: &mut impl Read, list: &mut [u8]) -> io::Result<usize>
+    ensures { IfOk result (λ n. n ≤ length list.new) }
+{
+    let mut length = 0;
+    loop {
+        let more = input.read(&mut list[length..])?;
+        if more == 0 {
+            return Ok(length);
+        }
+        length += more;
+    }
+}
+
 fn main(rt: HostRuntime) -> io::Result<()> {
-    let mut list = Vec::new(rt.alloc());
-    rt.stdin().take(MOST_BYTES).read_to_end(&mut list)?;
-    show_each(&rt, &list)?;
+    let mut list = [0u8; 65536];
+    let length = read_list(&mut rt.stdin(), &mut list)?;
+    show_each(&rt, &list[..length])?;
     additions::show_each(&rt)?;
     entitlements::show_each(&rt)?;
     merges::show_each(&rt)?;

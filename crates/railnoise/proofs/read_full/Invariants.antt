@@ -1,0 +1,9 @@
+-- `railnoise::read_full`: what was read lies within the buffer, and each turn reads more.
+use Rattle.std.proofs.Common.{◌-◌, ◌≤◌, length}
+use Rattle.railnoise.proofs.read_full.Given as goal
+
+abbrev pub invariant-loop-done : goal.invariant-loop-done
+invariant-loop-done g l = l.done ≤ length l.buffer
+
+abbrev pub decreases-loop-done : goal.decreases-loop-done
+decreases-loop-done g l = length l.buffer - l.done
