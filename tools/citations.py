@@ -1,9 +1,9 @@
 """What the .rt and .antt files of the crates bring in and define, and which of it nothing uses. Used by tools/audit.py and believed.py.
 
-A name counts as used where it stands as a word outside comments and imports. A definition counts as cited where its own file uses it
-outside of it, where a file that imports it uses it, where the attribute of a function names it by its path, or where a page or a comment
-names it in backticks: a theorem is the end of its line. What a function's Invariants.antt and Answers.antt give to its goals is taken by
-the check.
+A name counts as used where it stands as a word outside comments and imports, a trait also where a method of it does. A definition counts
+as cited where its own file uses it outside of it, where a file that imports it uses it, where the attribute of a function names it by its
+path, or where a page or a comment names it in backticks: a theorem is the end of its line. What a function's Invariants.antt and
+Answers.antt give to its goals is taken by the check.
 """
 import pathlib
 import re
@@ -18,6 +18,8 @@ DEFINED = re.compile(r"^(?P<indent>(?:  )?)(?:pub |abbrev |unfoldable |private )
 # a definition that its file gives to a goal of the function
 GIVEN = re.compile(r"^(?:pub |abbrev )*(?P<name>[^\s:(){}]+) : (?P<alias>\w+)\.(?P=name)$")
 RATTLE_DEFINED = re.compile(r"^[ \t]*(?P<pub>pub |pub\(crate\) )?(?P<extern>extern \"C\" )?(?:fn|struct|enum|const) (?P<name>\w+)", re.M)
+# a trait of std is brought in for its methods alone
+TRAITS = {"Read": {"read_to_end", "take"}}
 KEYWORDS = {"module", "let", "where", "record", "data", "ruleset"}
 
 
@@ -73,7 +75,7 @@ def sources(root="."):
 def unused_imports(all_sources):
     for source in all_sources:
         for _, _, here in source.imports:
-            if not used(here, source.text, source.words):
+            if not used(here, source.text, source.words) and not TRAITS.get(here, set()) & source.words:
                 yield f"{source.path}: import {here} is not used"
 
 
