@@ -21,7 +21,7 @@ use Rattle.request.specs.declared.Answer.{Answer}
 use Rattle.request.specs.declared.PeriodResult.{PeriodResult}
 use Rattle.request.specs.Levels.{Marks, own_marks, levels_of, cell_of, result_by}
 use Rattle.request.specs.Request.{cells_needed, levels_check, laid, cells_by, refused_by, answer_of, answer_by}
-use Rattle.request.proofs.Answers.{few-cells, enough-cells}
+use Rattle.request.proofs.Answers.{few_cells, enough_cells}
 use Rattle.request.proofs.Laid.{own_cells}
 use Rattle.request.proofs.Demand3.{ours_fit}
 use Rattle.request.proofs.Results.{own_allowed, result_is}
@@ -77,8 +77,8 @@ module _ (first second : List ℕ) where
       ∙ ap (first_refused (first_refused one.check (first_refused two.check (merged_of first second).check))) (answer_check (levels_check plan n) plan (own_marks plan))
 
   -- where the merge is accepted, its plan is that of both texts
-  merged-plan : (merged_of first second).check ≡ Accepted → merged_plan_in first second ≡ joined (plan_in first) (plan_in second)
-  merged-plan e =
+  merged_plan_lem : (merged_of first second).check ≡ Accepted → merged_plan_in first second ≡ joined (plan_in first) (plan_in second)
+  merged_plan_lem e =
       let one = text_is_run ours first in
       let two = text_is_run ours second in
       rw (one.1, two.1) (lists_joined ours ours_fit one.0 two.0 (rw (one.1, two.1) at e) ∙ sym (ap₂ joined (run-accepted ours ours_fit one.0) (run-accepted ours ours_fit two.0)))
@@ -88,12 +88,12 @@ module _ (first second : List ℕ) where
     whole = joined (plan_in first) (plan_in second)
 
     -- each text's levels, and its close segments, are its own
-    joined-levels : levels_together p one two own others ≡ map cell_of (levels_of p whole (own_marks whole))
-    joined-levels = rw (own_levels (plan_in first) (plan_in second) p (text_held ours ours_fit first), map-append cell_of) (ap₂ ◌++◌ (a.levels p) (b.levels p))
+    joined_levels : levels_together p one two own others ≡ map cell_of (levels_of p whole (own_marks whole))
+    joined_levels = rw (own_levels (plan_in first) (plan_in second) p (text_held ours ours_fit first), map-append cell_of) (ap₂ ◌++◌ (a.levels p) (b.levels p))
 
-    joined-result : length whole.entries ≤ ours.entries → result_together p one two own others ≡ result_by p whole (own_marks whole)
-    joined-result rows =
-        ap₂ (result_of p) (joined-levels ∙ own_cells p whole) (ap₂ ◌+◌ (a.close p) (b.close p) ∙ sym (own_close p (plan_in first) (plan_in second) (text_held ours ours_fit first)))
+    joined_result : length whole.entries ≤ ours.entries → result_together p one two own others ≡ result_by p whole (own_marks whole)
+    joined_result rows =
+        ap₂ (result_of p) (joined_levels ∙ own_cells p whole) (ap₂ ◌+◌ (a.close p) (b.close p) ∙ sym (own_close p (plan_in first) (plan_in second) (text_held ours ours_fit first)))
         ∙ sym (result_is p whole rows)
 
   answered : {before after : List ℤ} {r : MergedAnswer} → r ≡ merged_answer first second (length before) → after ≡ cells_with (texts_check first second) (merged_plan_in first second) before → AsAsked first second before after r
@@ -102,9 +102,9 @@ module _ (first second : List ℕ) where
       (record { answer = e; cells = cells; allowed = own_allowed (merged_plan_in first second) few }, ap (λ (a : MergedAnswer). check_number a.check) e ∙ ap check_number (told (length before)))
 
   module _ {own : List ℤ} {one : TextLevels} (a : TextGives first own one) where
-    pub first-refused : {why : Refusal} {before after : List ℤ} {r : MergedAnswer} → one.check ≡ Refused why → r ≡ told_at 1 one.line (refused_by why) → after ≡ before → AsAsked first second before after r
+    pub first_refused_lem : {why : Refusal} {before after : List ℤ} {r : MergedAnswer} → one.check ≡ Refused why → r ≡ told_at 1 one.line (refused_by why) → after ≡ before → AsAsked first second before after r
     unfolding merged_answer texts_check first_refused cells_with
-    first-refused e is same =
+    first_refused_lem e is same =
         let f = sym a.check ∙ e in
         answered (is ∙ rw (a.line, f)) (same ∙ rw f)
 
@@ -112,63 +112,63 @@ module _ (first second : List ℕ) where
       good : (read_text ours first).check ≡ Accepted
       good = sym a.check ∙ first_Good
 
-      pub second-refused : {why : Refusal} {before after : List ℤ} {r : MergedAnswer} → two.check ≡ Refused why → r ≡ told_at 2 two.line (refused_by why) → after ≡ before → AsAsked first second before after r
+      pub second_refused : {why : Refusal} {before after : List ℤ} {r : MergedAnswer} → two.check ≡ Refused why → r ≡ told_at 2 two.line (refused_by why) → after ≡ before → AsAsked first second before after r
       unfolding merged_answer texts_check first_refused cells_with
-      second-refused e is same =
+      second_refused e is same =
           let f = sym b.check ∙ e in
           answered (is ∙ rw (b.line, good, f)) (same ∙ rw (good, f))
 
       module _ (second-good : two.check ≡ Accepted) {both : Check} (checked : both ≡ limits_check ours (one.segments + two.segments) (one.entries + two.entries)) where
-        also-good : (read_text ours second).check ≡ Accepted
-        also-good = sym b.check ∙ second-good
+        also_good : (read_text ours second).check ≡ Accepted
+        also_good = sym b.check ∙ second-good
 
-        own-given : Given (plan_in first) own one
-        own-given = a.given first_Good
+        own_given : Given (plan_in first) own one
+        own_given = a.given first_Good
 
-        others-given : Given (plan_in second) others two
-        others-given = b.given second-good
+        others_given : Given (plan_in second) others two
+        others_given = b.given second-good
 
-        both-check : (merged_of first second).check ≡ both
+        both_check : (merged_of first second).check ≡ both
         unfolding merge_check
-        both-check = merged_check ours _ _ ∙ sym (checked ∙ rw (own-given.segments, others-given.segments, own-given.entries, others-given.entries) refl)
+        both_check = merged_check ours _ _ ∙ sym (checked ∙ rw (own_given.segments, others_given.segments, own_given.entries, others_given.entries) refl)
 
         pub merge_refused : {why : Refusal} {before after : List ℤ} {r : MergedAnswer} → both ≡ Refused why → r ≡ told_at 0 0 (refused_by why) → after ≡ before → AsAsked first second before after r
         unfolding merged_answer texts_check first_refused cells_with
         merge_refused e is same =
-            let f = both-check ∙ e in
-            answered (is ∙ rw (good, also-good, f)) (same ∙ rw (good, also-good, f))
+            let f = both_check ∙ e in
+            answered (is ∙ rw (good, also_good, f)) (same ∙ rw (good, also_good, f))
 
         module _ (within : both ≡ Accepted) where
           fits : (merged_of first second).check ≡ Accepted
-          fits = both-check ∙ within
+          fits = both_check ∙ within
 
           abbrev plan : Plan
           plan = joined (plan_in first) (plan_in second)
 
           plan_is : merged_plan_in first second ≡ plan
-          plan_is = merged-plan fits
+          plan_is = merged_plan_lem fits
 
           rows : length plan.entries ≡ one.entries + two.entries
-          rows = joined_total (plan_in first) (plan_in second) ∙ sym (ap₂ ◌+◌ own-given.entries others-given.entries)
+          rows = joined_total (plan_in first) (plan_in second) ∙ sym (ap₂ ◌+◌ own_given.entries others_given.entries)
 
           some : length plan.entries ≡ 0 → ⊥
-          some z = omega (arith, rows, own-given.entries, accepted_text_entry ours ours_fit first good)
+          some z = omega (arith, rows, own_given.entries, accepted_text_entry ours ours_fit first good)
 
-          pub few-refused : {before after : List ℤ} {r : MergedAnswer} → length before < cells_needed (one.entries + two.entries) → r ≡ told_at 0 0 (refused_by FewCells) → after ≡ before → AsAsked first second before after r
+          pub few_refused : {before after : List ℤ} {r : MergedAnswer} → length before < cells_needed (one.entries + two.entries) → r ≡ told_at 0 0 (refused_by FewCells) → after ≡ before → AsAsked first second before after r
           unfolding merged_answer texts_check first_refused cells_with cells_by laid answer_of levels_check
-          few-refused {before} h is same =
-              let check = few-cells (length plan.entries) (cells_needed (length plan.entries)) (length before) some (omega (arith, rows)) in
-              answered (is ∙ rw (good, also-good, fits, plan_is, check)) (same ∙ rw (good, also-good, fits, plan_is, check))
+          few_refused {before} h is same =
+              let check = few_cells (length plan.entries) (cells_needed (length plan.entries)) (length before) some (omega (arith, rows)) in
+              answered (is ∙ rw (good, also_good, fits, plan_is, check)) (same ∙ rw (good, also_good, fits, plan_is, check))
 
-          pub levels-told : {before after : List ℤ} {answer : Answer} {r : MergedAnswer} → cells_needed (one.entries + two.entries) ≤ length before → Together one two own others before after answer → r ≡ told_at 0 0 answer → AsAsked first second before after r
+          pub levels_told : {before after : List ℤ} {answer : Answer} {r : MergedAnswer} → cells_needed (one.entries + two.entries) ≤ length before → Together one two own others before after answer → r ≡ told_at 0 0 answer → AsAsked first second before after r
           unfolding merged_answer texts_check first_refused cells_with cells_by levels_check
-          levels-told {before} h w is =
-              let check = enough-cells (length plan.entries) (cells_needed (length plan.entries)) (length before) some (omega (arith, rows)) in
-              answered (is ∙ ap (told_at 0 0) w.answer ∙ rw (good, also-good, fits, plan_is, check) (ap₂ (λ (d n : PeriodResult). told_at 0 0 (answer_of Accepted d n)) (results-are Day) (results-are Night)))
-              (w.cells ∙ rw (good, also-good, fits, plan_is, check) (ap₂ (λ (d n : List ℤ). laid Accepted d n before) (levels_are Day) (levels_are Night)))
+          levels_told {before} h w is =
+              let check = enough_cells (length plan.entries) (cells_needed (length plan.entries)) (length before) some (omega (arith, rows)) in
+              answered (is ∙ ap (told_at 0 0) w.answer ∙ rw (good, also_good, fits, plan_is, check) (ap₂ (λ (d n : PeriodResult). told_at 0 0 (answer_of Accepted d n)) (results_are Day) (results_are Night)))
+              (w.cells ∙ rw (good, also_good, fits, plan_is, check) (ap₂ (λ (d n : List ℤ). laid Accepted d n before) (levels_are Day) (levels_are Night)))
             where
               levels_are : (p : Period) → levels_together p one two own others ≡ map cell_of (levels_of p plan (own_marks plan))
-              levels_are p = joined-levels p own-given others-given
+              levels_are p = joined_levels p own_given others_given
 
-              results-are : (p : Period) → result_together p one two own others ≡ result_by p plan (own_marks plan)
-              results-are p = joined-result p own-given others-given (rw plan_is at few)
+              results_are : (p : Period) → result_together p one two own others ≡ result_by p plan (own_marks plan)
+              results_are p = joined_result p own_given others_given (rw plan_is at few)

@@ -15,7 +15,7 @@ use Rattle.figures.specs.declared.Period.TheVariants.{Day, Night}
 use Rattle.request.specs.declared.PeriodResult.{PeriodResult}
 use Rattle.request.specs.Levels.{met_by, result_from}
 use Rattle.request.specs.Request.{cells_needed, laid, answer_of}
-use Rattle.request.proofs.Answers.{both-laid}
+use Rattle.request.proofs.Answers.{both_laid}
 use Rattle.drawings.specs.declared.TextLevels.{TextLevels}
 use Rattle.drawings.specs.Private.{total_in, result_of, PeriodLaid, levels_together, Together}
 
@@ -68,4 +68,4 @@ module _ (one two : TextLevels) (own others : List ℤ) where
   unfolding laid answer_of
   both_periods n m at a b c {before} d e =
       let night = rw (a, b, c) at e in
-      record { cells = both-laid day (levels_together Night one two own others) before d.cells night.cells; answer = rw (d.result, night.result) refl }
+      record { cells = both_laid day (levels_together Night one two own others) before d.cells night.cells; answer = rw (d.result, night.result) refl }

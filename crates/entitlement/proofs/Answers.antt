@@ -23,10 +23,10 @@ use Rattle.entitlement.proofs.Reports.{reported_held, study_allowed, both_accept
 
 -- ---- from reported levels
 
-pub house-is : (day night : Change) {x y : PeriodEntitlement} {r : Entitlement} → x ≡ period_of Day (held_change day) → y ≡ period_of Night (held_change night)
+pub house_is : (day night : Change) {x y : PeriodEntitlement} {r : Entitlement} → x ≡ period_of Day (held_change day) → y ≡ period_of Night (held_change night)
     → r ≡ record { check = Accepted; day = x; night = y; entitled = x.entitled || y.entitled } → EntitlementAnsweredBy day night r
 unfolding entitlement_by
-house-is day night e f g = record { answer = g ∙ rw (e, f); by_day = change_allowed day; by_night = change_allowed night }
+house_is day night e f g = record { answer = g ∙ rw (e, f); by_day = change_allowed day; by_night = change_allowed night }
 
 -- ---- from studies
 
@@ -38,17 +38,17 @@ answer_check (Refused r) day night = refl
 
 module _ (before after : Layout) (few : LayoutFew before) (room : LayoutFew after) where
   -- what they report, working cells hold as it is
-  change-held : (p : Period) → held_change (change_in p before after) ≡ change_in p before after
+  change_held : (p : Period) → held_change (change_in p before after) ≡ change_in p before after
   unfolding held_change change_in levels_in
-  change-held p = rw (reported_held p before.altered few.altered, reported_held p before.other few.other, reported_held p after.altered room.altered, reported_held p after.other room.other)
+  change_held p = rw (reported_held p before.altered few.altered, reported_held p before.other few.other, reported_held p after.altered room.altered, reported_held p after.other room.other)
 
   -- 01 allows all the marks
-  pub all-allowed : EntitlementAllowed before after
-  all-allowed =
+  pub all_allowed : EntitlementAllowed before after
+  all_allowed =
       record {
         before = record { altered = study_allowed before.altered few.altered; other = study_allowed before.other few.other };
         after = record { altered = study_allowed after.altered room.altered; other = study_allowed after.other room.other };
-        combinations = λ p. subst ChangeAllowed (change-held p) (change_allowed (change_in p before after));
+        combinations = λ p. subst ChangeAllowed (change_held p) (change_allowed (change_in p before after));
       }
 
   number_is : check_number (entitlement_check before after) ≡ entitlement_number before after
@@ -59,23 +59,23 @@ module _ (before after : Layout) (few : LayoutFew before) (room : LayoutFew afte
   pub answered : {r : Entitlement} → r ≡ entitlement_of before after → EntitlementAnswered before after r × (check_number r.check ≡ entitlement_number before after)
   unfolding entitlement_of
   answered is = (
-    record { answer = is; allowed = all-allowed },
+    record { answer = is; allowed = all_allowed },
     ap (λ (a : Entitlement). check_number a.check) is ∙ ap check_number (answer_check (entitlement_check before after) (change_in Day before after) (change_in Night before after)) ∙ number_is,
   )
 
   -- from the levels of studies that are all given
-  pub given-answer : {r : Entitlement} → entitlement_check before after ≡ Accepted → EntitlementAnsweredBy (change_in Day before after) (change_in Night before after) r → r ≡ entitlement_of before after
+  pub given_answer : {r : Entitlement} → entitlement_check before after ≡ Accepted → EntitlementAnsweredBy (change_in Day before after) (change_in Night before after) r → r ≡ entitlement_of before after
   unfolding entitlement_of
-  given-answer e q = q.answer ∙ rw (change-held Day, change-held Night, e)
+  given_answer e q = q.answer ∙ rw (change_held Day, change_held Night, e)
 
 module _ (before after : Layout) {old new : LayoutReport} (x : LayoutReports before old) (y : LayoutReports after new) {check : Check} (e : check ≡ first_refused old.check new.check) where
   check_is : entitlement_check before after ≡ check
   unfolding entitlement_check all_kept
   check_is = sym (checks_together _ _ x.check y.check e)
 
-  pub refused-answer : {why : Refusal} {r : Entitlement} → check ≡ Refused why → r ≡ refused_entitlement why → EntitlementAnswered before after r × (check_number r.check ≡ entitlement_number before after)
+  pub refused_answer_lem : {why : Refusal} {r : Entitlement} → check ≡ Refused why → r ≡ refused_entitlement why → EntitlementAnswered before after r × (check_number r.check ≡ entitlement_number before after)
   unfolding entitlement_of
-  refused-answer f q = answered before after x.few y.few (q ∙ rw (check_is, f))
+  refused_answer_lem f q = answered before after x.few y.few (q ∙ rw (check_is, f))
 
   pub accepted-answer : {r : Entitlement} → check ≡ Accepted → EntitlementAnsweredBy (record { before = old.day; after = new.day }) (record { before = old.night; after = new.night }) r
       → EntitlementAnswered before after r × (check_number r.check ≡ entitlement_number before after)
@@ -83,4 +83,4 @@ module _ (before after : Layout) {old new : LayoutReport} (x : LayoutReports bef
   accepted-answer {r} f q =
       let each = both_accepted old.check new.check (sym e ∙ f) in
       let levels : EntitlementAnsweredBy (change_in Day before after) (change_in Night before after) r = rw (x.day each.0, y.day each.1, x.night each.0, y.night each.1) at q in
-      answered before after x.few y.few (given-answer before after x.few y.few (check_is ∙ f) levels)
+      answered before after x.few y.few (given_answer before after x.few y.few (check_is ∙ f) levels)

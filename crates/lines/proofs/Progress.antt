@@ -59,6 +59,13 @@ module _ (p : Progress) {r : Number} (e : r ≡ number_at p.line p.at) where
       go (wrong h k f) = rw (p.so, f)
       go (number v m h k f) = cc
 
+-- four fields more
+abbrev pub four : (p : Progress) {a b c d : Number} {t u v w : ℤ} {k l m n : ℕ}
+    → a ≡ number_at p.line p.at → a ≡ N.Value t k → b ≡ number_at p.line k → b ≡ N.Value u l
+    → c ≡ number_at p.line l → c ≡ N.Value v m → d ≡ number_at p.line m → d ≡ N.Value w n
+    → mag t < 2 ^ 31 → mag u < 2 ^ 31 → mag v < 2 ^ 31 → mag w < 2 ^ 31 → Progress
+four p e q e' q' f r f' r' g h i j = step (step (step (step p e q g) e' q' h) f r i) f' r' j
+
 module _ (p : Progress) {A : Type 0} (n : ℕ) (F : Option (List ℤ) → A) (d : length p.vs ≡ n) where
   -- a number too many
   pub field_extra : p.at ≤ length p.line → F none ≡ F (exactly n (numbers_of p.line))

@@ -9,7 +9,7 @@ use Rattle.figures.specs.Refusal.{unless}
 use Rattle.entitlement.specs.declared.Entitlement.{Entitlement}
 use Rattle.entitlement.specs.Entitlement.{levels_in, change_in, all_kept, entitlement_check, entitlement_of, refused_entitlement, EntitlementAnsweredBy}
 use Rattle.entitlement.specs.Private.{LayoutFew}
-use Rattle.entitlement.proofs.Answers.{all-allowed, given-answer}
+use Rattle.entitlement.proofs.Answers.{all_allowed, given_answer}
 use Rattle.railnoise_requests_c.specs.declared.TextReport.{TextReport}
 use Rattle.railnoise_requests_c.specs.declared.RailnoiseEntitlementAnswer.{RailnoiseEntitlementAnswer}
 use Rattle.railnoise_requests_c.specs.Entitlement.{exported_entitlement, Source, source_check, read_at, layout_of, entitlement_in, EntitlementCalled}
@@ -45,7 +45,7 @@ module _ (a b c d : Source) where
   kept_all e f g h = rw (accepted-kept a e, accepted-kept b f, accepted-kept c g, accepted-kept d h)
 
   called : {r : RailnoiseEntitlementAnswer} → r ≡ entitlement_in a b c d → EntitlementCalled a b c d r
-  called q = record { answer = q; allowed = all-allowed (layout_of a c) (layout_of b d) (layout_few a c) (layout_few b d) }
+  called q = record { answer = q; allowed = all_allowed (layout_of a c) (layout_of b d) (layout_few a c) (layout_few b d) }
 
   module _ {s : TextReport} (x : TextReports a s) where
     pub refused_first : {why : Refusal} {r : RailnoiseEntitlementAnswer} → s.check ≡ Refused why → r ≡ exported_entitlement (refused_entitlement why) 1 s.line → EntitlementCalled a b c d r
@@ -87,5 +87,5 @@ module _ (a b c d : Source) where
 
                   pub accepted_texts : {e : Entitlement} {r : RailnoiseEntitlementAnswer} → EntitlementAnsweredBy (by_day s t u v) (by_night s t u v) e → r ≡ exported_entitlement e 0 0 → EntitlementCalled a b c d r
                   accepted_texts q f =
-                      let is = given-answer (layout_of a c) (layout_of b d) (layout_few a c) (layout_few b d) all_given (levels_are q) in
+                      let is = given_answer (layout_of a c) (layout_of b d) (layout_few a c) (layout_few b d) all_given (levels_are q) in
                       called (f ∙ ap (λ (k : Entitlement). exported_entitlement k 0 0) is ∙ sym (read_on 4 w answer fourth) ∙ after_third)

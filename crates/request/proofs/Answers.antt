@@ -36,21 +36,21 @@ use Rattle.request.proofs.Results.{period_is, own_allowed}
 -- ---- which refusal applies
 
 module _ (entries needed n : ℕ) where
-  pub no-entries : entries ≡ 0 → request_check entries needed n ≡ Refused NoEntry
+  pub no_entries : entries ≡ 0 → request_check entries needed n ≡ Refused NoEntry
   unfolding request_check unless
-  no-entries e = simp (le-ltb 0 entries (omega arith))
+  no_entries e = simp (le-ltb 0 entries (omega arith))
 
-  pub few-cells : (entries ≡ 0 → ⊥) → n < needed → request_check entries needed n ≡ Refused FewCells
+  pub few_cells : (entries ≡ 0 → ⊥) → n < needed → request_check entries needed n ≡ Refused FewCells
   unfolding request_check unless
-  few-cells some h = simp (lt-ltb 0 entries (omega (arith, some)), lt-leb needed n h)
+  few_cells some h = simp (lt-ltb 0 entries (omega (arith, some)), lt-leb needed n h)
 
-  pub enough-cells : (entries ≡ 0 → ⊥) → needed ≤ n → request_check entries needed n ≡ Accepted
+  pub enough_cells : (entries ≡ 0 → ⊥) → needed ≤ n → request_check entries needed n ≡ Accepted
   unfolding request_check unless
-  enough-cells some h = simp (lt-ltb 0 entries (omega (arith, some)), le-leb needed n h)
+  enough_cells some h = simp (lt-ltb 0 entries (omega (arith, some)), le-leb needed n h)
 
-  request-number : check_number (request_check entries needed n) ≡ request_number entries needed n
+  request_number_lem : check_number (request_check entries needed n) ≡ request_number entries needed n
   unfolding request_check request_number lowest_number check_number number_of
-  request-number = simp unless_number
+  request_number_lem = simp unless_number
 
 -- an answer's check
 pub answer_check : (check : Check) (d n : PeriodResult) → (answer_of check d n).check ≡ check
@@ -64,7 +64,7 @@ answer_number check d n e = ap (λ (r : Answer). check_number r.check) e ∙ ap 
 -- and what is asked of a plan
 pub plan_number : (plan : Plan) (n : ℕ) (d e : PeriodResult) → check_number (answer_of (levels_check plan n) d e).check ≡ levels_number plan n
 unfolding levels_check levels_number
-plan_number plan n d e = answer_number (levels_check plan n) d e refl ∙ request-number (length plan.entries) (cells_needed (length plan.entries)) n
+plan_number plan n d e = answer_number (levels_check plan n) d e refl ∙ request_number_lem (length plan.entries) (cells_needed (length plan.entries)) n
 
 -- ---- levels as computed
 
@@ -72,8 +72,8 @@ pub mark_allowed : (cells : List ℤ) → TotalMark (heard (take ours.entries ce
 mark_allowed cells = total_allowed (heard (take ours.entries cells)) (omega (arith, heard_few (take ours.entries cells), length-take ours.entries cells)) (heard-kept (take ours.entries cells))
 
 -- both are written
-pub both-laid : (day night before : List ℤ) {first after : List ℤ} → first ≡ paste before 0 day (length day) → after ≡ paste first (length day) night (length night) → after ≡ day ++ (night ++ drop (length day + length night) before)
-both-laid day night before {first} {after} a b =
+pub both_laid : (day night before : List ℤ) {first after : List ℤ} → first ≡ paste before 0 day (length day) → after ≡ paste first (length day) night (length night) → after ≡ day ++ (night ++ drop (length day + length night) before)
+both_laid day night before {first} {after} a b =
     let rest = day ++ drop (0 + length day) before in
     let d : first ≡ rest = a ∙ ap (λ (x : List ℤ). x ++ drop (0 + length day) before) (take_all (length day) day (omega arith)) in
     let w : 0 + length day + length night ≡ length day + length night = omega arith in
@@ -84,18 +84,18 @@ both-laid day night before {first} {after} a b =
 
 module _ (day night : List ℤ) (places : List ℕ) (close : List Bool) (before : List ℤ) where
   -- a refusal leaves the cells
-  pub refused-from : (r : Refusal) {a : Answer} → check_from day night (length before) ≡ Refused r → a ≡ refused_by r → AnsweredFrom day night places close before before a
+  pub refused_from : (r : Refusal) {a : Answer} → check_from day night (length before) ≡ Refused r → a ≡ refused_by r → AnsweredFrom day night places close before before a
   unfolding laid answer_of
-  refused-from r e f = record { cells = rw e; answer = f ∙ rw e; day = mark_allowed day; night = mark_allowed night }
+  refused_from r e f = record { cells = rw e; answer = f ∙ rw e; day = mark_allowed day; night = mark_allowed night }
 
-  pub accepted-from : {first after : List ℤ} {d n : PeriodResult} → check_from day night (length before) ≡ Accepted → first ≡ paste before 0 day (length day) → after ≡ paste first (length day) night (length night)
+  pub accepted_from : {first after : List ℤ} {d n : PeriodResult} → check_from day night (length before) ≡ Accepted → first ≡ paste before 0 day (length day) → after ≡ paste first (length day) night (length night)
       → d ≡ period_from Day day places close → n ≡ period_from Night night places close → AnsweredFrom day night places close before after (record { check = Accepted; day = d; night = n })
   unfolding laid answer_of
-  accepted-from e a b d n = record { cells = both-laid day night before a b ∙ rw e; answer = rw (d, n, e); day = mark_allowed day; night = mark_allowed night }
+  accepted_from e a b d n = record { cells = both_laid day night before a b ∙ rw e; answer = rw (d, n, e); day = mark_allowed day; night = mark_allowed night }
 
 -- an answer, and its number
-pub answered-from : {ds ns : List ℤ} {ps : List ℕ} {cs : List Bool} {before after : List ℤ} {r : Answer} → AnsweredFrom ds ns ps cs before after r → AnsweredFrom ds ns ps cs before after r × (check_number r.check ≡ request_number (length ds) (length ds + length ns) (length before))
-answered-from {ds} {ns} {before = before} a = (a, answer_number _ _ _ a.answer ∙ request-number (length ds) (length ds + length ns) (length before))
+pub answered_from : {ds ns : List ℤ} {ps : List ℕ} {cs : List Bool} {before after : List ℤ} {r : Answer} → AnsweredFrom ds ns ps cs before after r → AnsweredFrom ds ns ps cs before after r × (check_number r.check ≡ request_number (length ds) (length ds + length ns) (length before))
+answered_from {ds} {ns} {before = before} a = (a, answer_number _ _ _ a.answer ∙ request_number_lem (length ds) (length ds + length ns) (length before))
 
 pub answered : {st : Study} {before after : List ℤ} {r : Answer} → Answered st before after r → Answered st before after r × (check_number r.check ≡ levels_number (plan_of st) (length before))
 answered {st} {before} a = (a, ap (λ (r : Answer). check_number r.check) a.by.answer ∙ plan_number (plan_of st) (length before) _ _)
@@ -122,9 +122,9 @@ module _ {plan : Plan} (few : Few plan) {day night : List ℤ} {places : List �
       let n : length night ≡ length plan.entries = ap length c.night ∙ cells_length Night plan in
       rw (d, n)
 
-  pub computed-answer : AnsweredBy plan (own_marks plan) before after r
+  pub computed_answer : AnsweredBy plan (own_marks plan) before after r
   unfolding cells_by own_marks levels_of level_at
-  computed-answer =
+  computed_answer =
       record {
         cells = q.cells ∙ rw (same_check, c.day, c.night);
         answer =
@@ -132,5 +132,5 @@ module _ {plan : Plan} (few : Few plan) {day night : List ℤ} {places : List �
             ∙ rw (same_check, c.day, c.night, c.places, period_is Day plan close few.segments few.entries c.close, period_is Night plan close few.segments few.entries c.close);
       }
 
-  pub computed-marks : MarksAllowed plan (own_marks plan)
-  computed-marks = own_allowed plan few.entries
+  pub computed_marks : MarksAllowed plan (own_marks plan)
+  computed_marks = own_allowed plan few.entries

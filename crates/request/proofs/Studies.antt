@@ -16,7 +16,7 @@ use Rattle.request.specs.declared.Answer.{Answer}
 use Rattle.request.specs.Request.{Answered, AnsweredFrom}
 use Rattle.request.specs.Private.{Propagated, Filled}
 use Rattle.request.proofs.Cells.{cells_length, cells_found}
-use Rattle.request.proofs.Answers.{Computed, Few, computed-answer, computed-marks}
+use Rattle.request.proofs.Answers.{Computed, Few, computed_answer, computed_marks}
 
 -- the levels of a plan, where its segments' tenths and its entries' levels stand at the front of arrays
 module _ {plan : Plan} {t : ℕ} (count : t ≡ length plan.entries) {tenths : List ℤ} {close : List Bool} (all : Propagated plan.segments tenths close) {ds ns : List ℤ} {ps : List ℕ} (filled : Filled tenths plan.entries ds ns ps) where
@@ -49,4 +49,4 @@ module _ {st : Study} {h : Holdings} (o : Opens st h) where
   opened_filled {tenths} {ds} {ns} {ps} f = subst (λ (plan : Plan). Filled tenths plan.entries ds ns ps) o.plan f
 
 pub answered_study : (st : Study) → Few (plan_of st) → {ds ns : List ℤ} {ps : List ℕ} {cs : List Bool} → Computed (plan_of st) ds ns ps cs → {before after : List ℤ} {r : Answer} → AnsweredFrom ds ns ps cs before after r → Answered st before after r
-answered_study st few c q = record { by = computed-answer few c q; allowed = computed-marks few c q }
+answered_study st few c q = record { by = computed_answer few c q; allowed = computed_marks few c q }

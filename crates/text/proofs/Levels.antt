@@ -23,7 +23,7 @@ use Rattle.request.specs.Request.{cell_in, AnsweredFrom}
 use Rattle.request.specs.Private.{cell_from}
 use Rattle.request.proofs.Found.{none_adds}
 use Rattle.request.proofs.Cells.{cells_of, cells_found}
-use Rattle.request.proofs.Answers.{Computed, Few, computed-answer, computed-marks}
+use Rattle.request.proofs.Answers.{Computed, Few, computed_answer, computed_marks}
 use Rattle.study.specs.Add.{ours}
 use Rattle.text.specs.Private.{Works, PlanAnswered}
 
@@ -87,4 +87,4 @@ module _ {plan : Plan} {tenths : List ℤ} {close : List Bool} {trains : List Tr
   worked_answer few rows q =
       let all : Computed plan (cells_in Day tenths trains places) (cells_in Night tenths trains places) places close = record { day = cells_are Day; night = cells_are Night; places = w.places; close = close_are } in
       let fits : Few plan = record { segments = few; entries = omega (arith, ap length w.places, length-map plan.entries (λ (e : Entry). e.segment)) } in
-      record { by = computed-answer fits all q; allowed = computed-marks fits all q }
+      record { by = computed_answer fits all q; allowed = computed_marks fits all q }

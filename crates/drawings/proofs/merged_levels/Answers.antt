@@ -2,12 +2,12 @@
 use mathlib.Core.Path.{refl}
 use native.Mathlib.Omega.{arith}
 use Rattle.drawings.proofs.Texts.{Small, text_small}
-use Rattle.drawings.proofs.Answers.{first-refused, second-refused, merge_refused, few-refused, levels-told}
+use Rattle.drawings.proofs.Answers.{first_refused_lem, second_refused, merge_refused, few_refused, levels_told}
 use Rattle.drawings.proofs.merged_levels.Goals as goal
 
 pub returns-in-Refused : goal.returns-in-Refused
 returns-in-Refused c =
-    let all = first-refused _ _ c.levels_in-one.ensures c.in-Refused.is c.refused_at.ensures refl in
+    let all = first_refused_lem _ _ c.levels_in-one.ensures c.in-Refused.is c.refused_at.ensures refl in
     record { answered = all.0; number = all.1 }
 
 pub overflow_add-entries : goal.overflow_add-entries
@@ -21,7 +21,7 @@ overflow_add-entries-2 c = omega (arith, (let it : Small c.levels_in-one.result 
 
 pub returns-then-cells-entries : goal.returns-then-cells-entries
 returns-then-cells-entries c =
-    let all = few-refused _ _ c.levels_in-one.ensures c.in_default.is c.levels_in-two.ensures c.in_default-checked_two.is c.limits_check-checked_both.ensures.is c.in_default-checked_both.is (omega (arith, c.if-cells-entries.true))
+    let all = few_refused _ _ c.levels_in-one.ensures c.in_default.is c.levels_in-two.ensures c.in_default-checked_two.is c.limits_check-checked_both.ensures.is c.in_default-checked_both.is (omega (arith, c.if-cells-entries.true))
     c.refused_at-then-cells-entries.ensures refl in
     record { answered = all.0; number = all.1 }
 
@@ -39,13 +39,13 @@ together-requires c =
 
 pub returns : goal.returns
 returns c =
-    let all = levels-told _ _ c.levels_in-one.ensures c.in_default.is c.levels_in-two.ensures c.in_default-checked_two.is c.limits_check-checked_both.ensures.is c.in_default-checked_both.is (omega (arith, c.if-cells-entries.false))
+    let all = levels_told _ _ c.levels_in-one.ensures c.in_default.is c.levels_in-two.ensures c.in_default-checked_two.is c.limits_check-checked_both.ensures.is c.in_default-checked_both.is (omega (arith, c.if-cells-entries.false))
     c.together.ensures c.told_at.ensures in
     record { answered = all.0; number = all.1 }
 
 pub returns-in-Refused-checked_two : goal.returns-in-Refused-checked_two
 returns-in-Refused-checked_two c =
-    let all = second-refused _ _ c.levels_in-one.ensures c.in_default.is c.levels_in-two.ensures c.in-Refused-checked_two.is c.refused_at-in-Refused-checked_two.ensures refl in
+    let all = second_refused _ _ c.levels_in-one.ensures c.in_default.is c.levels_in-two.ensures c.in-Refused-checked_two.is c.refused_at-in-Refused-checked_two.ensures refl in
     record { answered = all.0; number = all.1 }
 
 pub returns-in-Refused-checked_both : goal.returns-in-Refused-checked_both

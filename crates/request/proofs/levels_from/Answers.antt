@@ -4,29 +4,29 @@ use Prim.Native.Nat.{◌≤◌, ◌+◌}
 use lib.ListN.{length}
 use Rattle.figures.specs.declared.Refusal.TheVariants.{NoEntry, FewCells}
 use Rattle.request.proofs.Writing.{as_pasted}
-use Rattle.request.proofs.Answers.{no-entries, few-cells, enough-cells, refused-from, accepted-from, answered-from}
+use Rattle.request.proofs.Answers.{no_entries, few_cells, enough_cells, refused_from, accepted_from, answered_from}
 use Rattle.request.proofs.levels_from.Goals as goal
 
 pub returns-then-day-eq0 : goal.returns-then-day-eq0
 returns-then-day-eq0 c =
     let all = let a = c.args in
-    answered-from
-    (refused-from a.day.now a.night.now a.places.now a.close.now a.cells.now NoEntry (no-entries (length a.day.now) _ (length a.cells.now) c.if-day-eq0.true) c.refusal_answer.ensures.is) in
+    answered_from
+    (refused_from a.day.now a.night.now a.places.now a.close.now a.cells.now NoEntry (no_entries (length a.day.now) _ (length a.cells.now) c.if-day-eq0.true) c.refusal_answer.ensures.is) in
     record { answered = all.0; number = all.1 }
 
 pub returns-then-cells-day : goal.returns-then-cells-day
 returns-then-cells-day c =
     let all = let a = c.args in
-    answered-from
-    (refused-from a.day.now a.night.now a.places.now a.close.now a.cells.now FewCells (few-cells (length a.day.now) _ (length a.cells.now) c.if-day-eq0.false (omega (arith, c.if-cells-day.true))) c.refusal_answer-then-cells-day.ensures.is) in
+    answered_from
+    (refused_from a.day.now a.night.now a.places.now a.close.now a.cells.now FewCells (few_cells (length a.day.now) _ (length a.cells.now) c.if-day-eq0.false (omega (arith, c.if-cells-day.true))) c.refusal_answer-then-cells-day.ensures.is) in
     record { answered = all.0; number = all.1 }
 
 pub returns-then-cells-day-2 : goal.returns-then-cells-day-2
 returns-then-cells-day-2 c =
     let all = let a = c.args in
-    answered-from
-    (refused-from a.day.now a.night.now a.places.now a.close.now a.cells.now FewCells
-    (few-cells (length a.day.now) _ (length a.cells.now) c.if-day-eq0.false (omega (arith, c.if-cells-day.false, c.if-cells-day-2.true))) c.refusal_answer-then-cells-day-2.ensures.is) in
+    answered_from
+    (refused_from a.day.now a.night.now a.places.now a.close.now a.cells.now FewCells
+    (few_cells (length a.day.now) _ (length a.cells.now) c.if-day-eq0.false (omega (arith, c.if-cells-day.false, c.if-cells-day-2.true))) c.refusal_answer-then-cells-day-2.ensures.is) in
     record { answered = all.0; number = all.1 }
 
 pub returns : goal.returns
@@ -34,8 +34,8 @@ returns c =
     let a = c.args in
     let room : length a.day.now + length a.night.now ≤ length a.cells.now = omega (arith, c.if-cells-day.false, c.if-cells-day-2.false) in
     let all =
-    answered-from
-    (accepted-from a.day.now a.night.now a.places.now a.close.now a.cells.now (enough-cells (length a.day.now) _ (length a.cells.now) c.if-day-eq0.false room)
+    answered_from
+    (accepted_from a.day.now a.night.now a.places.now a.close.now a.cells.now (enough_cells (length a.day.now) _ (length a.cells.now) c.if-day-eq0.false room)
     (as_pasted a.day.now a.cells.now 0 (omega (arith, room)) c.write_levels.ensures)
     (as_pasted a.night.now c.write_levels.new.cells (length a.day.now) (omega (arith, room, c.write_levels.auto.cells)) c.write_levels-2.ensures) c.period_of.ensures.is c.period_of-2.ensures.is) in
     record { answered = all.0; number = all.1 }
