@@ -2,8 +2,8 @@
 # railnoise: day and night railway noise at a window, from study texts. railnoise.sh --help says how it is used.
 #
 # In a checkout this proves and builds the program where that has not been done; below an installed prefix (tools/install.sh) the
-# program stands ready. The program's own exit status is always 0, as its language has none, so the status is taken here from the
-# first word that it writes, and what it writes is held back until it can be written with a check.
+# program stands ready. The program's own exit status is 0 for an answer and for a refusal, so the status is taken here from the first
+# word that it writes, and what it writes is held back until it can be written with a check.
 set -uo pipefail
 
 here=$(dirname -- "$(readlink -f -- "$0")")
@@ -82,7 +82,7 @@ prove() {
     say "proving and building, some minutes the first time; the whole log is $log"
     set -m
     (
-        cd "$here/crates/railnoise" && rt run 2>&1 </dev/null 9>&- | tee "$log" | {
+        cd "$here/crates/railnoise" && rt run --cpu x86-64 2>&1 </dev/null 9>&- | tee "$log" | {
             while IFS= read -r line; do
                 case $line in
                 'crate '*) crate=${line#crate } crate=${crate%%:*} ;;

@@ -7,9 +7,9 @@ archive_of() {
     echo "$root/crates/$1/out/lib$1.a"
 }
 
-# make_archive NAME: proves and builds it, and shows what rt said where that fails. `rt ci` proves it too, and leaves no archive.
+# make_archive NAME: proves and builds it, for any x86-64, and shows what rt said where that fails. `rt ci` proves it too, and leaves no archive.
 make_archive() {
-    said=$(cd "$root/crates/$1" && rt lib 2>&1) || {
+    said=$(cd "$root/crates/$1" && rt lib --cpu x86-64 2>&1) || {
         printf '%s\n' "$said" >&2
         return 1
     }
