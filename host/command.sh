@@ -209,7 +209,7 @@ cat >kit/rt <<'KIT'
 #!/bin/sh
 # Stands for rt run: takes all that it can read, says what rt says, counts its runs, puts the program in place, and writes what that
 # does. SLOW: seconds that a crate takes.
-[ "$*" = run ] || exit 2
+[ "$*" = "run --cpu x86-64" ] || exit 2
 cd ../..
 cat >/dev/null
 echo run >>builds
