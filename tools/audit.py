@@ -47,18 +47,41 @@ UNCITED = {
     "factor_high": "for the fine level of a change request: what a factor takes off at most",
 }
 
-# Lemmas that answered a goal which the check finds by itself since the port: the port dropped nothing.
-UNCITED |= dict.fromkeys(
-    """
-    tenfold_start not_first not_last wide_mul difference_back arm without_mark without_none vehicles_fit base_fit speed_fits
-    figure_most figure_small held_low held_high held-within wide_raised below_zero not_below wide_abs_fits wide_sum cast_fits
-    square_cast sought_none passed_none below_four count_fits still_exceeded product_fits quotient_fits angle_fits soft_fits
-    louder_fits louder_is opposite_fits depth_fits rise_fits no_screen path_fits wall_most none_yet none_more none_all filled_none
-    filled_more search_starts wide_fits ten_fits bound_fits tenths_are at_first_entry fault_line segment_unread train_unread
-    held_places line_within put_as put_end back_wide opposite
-    """.split(),
-    "the check finds its goal by itself",
-)
+# Lemmas, by file, that answered a goal which the check finds by itself since the port: the port dropped nothing.
+SPARE = {
+    "crates/decibel/proofs/Tenfolds.antt": "tenfold_start",
+    "crates/decibel/proofs/Walk.antt": "not_first not_last",
+    "crates/decibel/proofs/Words.antt": "wide_mul difference_back",
+    "crates/decibel_tables/proofs/Match.antt": "arm",
+    "crates/drawings/proofs/Texts.antt": "without_mark without_none",
+    "crates/emission/proofs/Emission.antt": "vehicles_fit base_fit",
+    "crates/emission/proofs/SpeedStep.antt": "speed_fits",
+    "crates/energy/proofs/Cells.antt": "figure_most",
+    "crates/energy/proofs/Named.antt": "figure_small",
+    "crates/entitlement/proofs/Combined.antt": "held_low held_high held-within wide_raised",
+    "crates/figures/proofs/Signs.antt": "below_zero not_below wide_abs_fits wide_sum cast_fits",
+    "crates/figures/proofs/Squares.antt": "square_cast",
+    "crates/lines/proofs/Bytes.antt": "sought_none",
+    "crates/lines/proofs/Digits.antt": "passed_none below_four",
+    "crates/lines/proofs/Entries.antt": "count_fits still_exceeded",
+    "crates/propagation/proofs/AngleStep.antt": "product_fits quotient_fits angle_fits",
+    "crates/propagation/proofs/GroundStep.antt": "soft_fits louder_fits louder_is",
+    "crates/propagation/proofs/OppositeStep.antt": "opposite_fits",
+    "crates/propagation/proofs/ScreenStep.antt": "depth_fits rise_fits no_screen",
+    "crates/propagation/proofs/SegmentSum.antt": "path_fits",
+    "crates/propagation/proofs/WallLoss.antt": "wall_most",
+    "crates/request/proofs/Counts.antt": "none_yet none_more none_all",
+    "crates/request/proofs/Found.antt": "filled_none filled_more",
+    "crates/speeds/proofs/Search.antt": "search_starts",
+    "crates/speeds/proofs/Trials.antt": "wide_fits ten_fits bound_fits tenths_are",
+    "crates/study/proofs/Remaining.antt": "at_first_entry",
+    "crates/text/proofs/Steps.antt": "fault_line segment_unread train_unread",
+    "crates/text/proofs/Worked.antt": "held_places",
+    "crates/text_speeds/proofs/Passed.antt": "line_within",
+    "crates/words/proofs/Notices.antt": "put_as",
+    "crates/writing/proofs/Pages.antt": "put_end",
+    "crates/writing/proofs/Signs.antt": "back_wide opposite",
+}
 
 FUNCTION = re.compile(
     r"""^(?P<indent>[ \t]*)(?P<public>pub[ ])?(?:pub\(crate\)[ ])?(?:extern[ ]"C"[ ])?fn[ ](?P<name>\w+)
@@ -202,7 +225,7 @@ def idle_names():
     pages = "\n".join(path.read_text() for path in files(["README.md", "docs/*.md"]))
     yield from citations.unused_imports(sources)
     for path, name in citations.uncited_definitions(sources, pages):
-        if name not in UNCITED:
+        if name not in UNCITED and name not in SPARE.get(pathlib.PurePath(path).as_posix(), "").split():
             yield f"{path}: nothing cites {name}"
 
 

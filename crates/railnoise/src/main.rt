@@ -38,6 +38,8 @@ fn main(rt: HostRuntime) -> io::Result<()> {
     let written = report::report(&text[..length], &mut out, &mut notice);
     let count = written.output;
     let told = written.notice;
-    rt.stdout().write_all(&out[..count])?;
-    rt.stderr().write_all(&notice[..told])
+    // The notice is written even where the report could not be.
+    let shown = rt.stdout().write_all(&out[..count]);
+    rt.stderr().write_all(&notice[..told])?;
+    shown
 }
