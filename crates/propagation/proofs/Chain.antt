@@ -1,6 +1,6 @@
 -- The chain of refusals of a segment: what an accepted one keeps, and how the code comes to its end.
 -- Assumes nothing.
-use mathlib.Core.Path.{◌≡◌, refl, ◌∙◌, ap}
+use mathlib.Core.Path.{◌≡◌, refl, sym, ◌∙◌, ap}
 use mathlib.Core.Bool.{Bool, true, false, not, ◌||◌, true≢false, false≢true}
 use mathlib.Core.List.{[], ◌∷◌}
 use Prim.Native.Nat.{ℕ, ◌≤◌}
@@ -18,7 +18,9 @@ use Rattle.figures.proofs.Kept.{first_kept, rest_kept, ranges_first, ranged, rea
 use Rattle.figures.proofs.Numbers.{unless_number, ranges_number}
 use Rattle.propagation.specs.Screen.{path_difference, most_shadow, shadow_kept}
 use Rattle.propagation.specs.Check.{segment_check, segment_lines}
-use Rattle.propagation.specs.Private.{Ranges, Differs}
+use Rattle.propagation.specs.declared.check.Judged.{Judged}
+use Rattle.propagation.specs.declared.check.Judged.TheVariants as J
+use Rattle.propagation.specs.Private.{Ranges, Differs, Judges}
 
 in_depth : (s : Segment) → shadow_kept s ≡ true → unscreened s ≡ false → in_shadow s ≡ true → path_difference s ≤ most_shadow
 unfolding shadow_kept
@@ -49,6 +51,20 @@ range_refused s e = ranges_first s _ ∙ ap (λ (x : Check). first_refused x (un
 pub range_kept : (s : Segment) → range_check s ≡ Accepted → segment_check s ≡ unless (shadow_kept s) Shadow (unless (readings_kept s) Reading Accepted)
 unfolding segment_check first_refused
 range_kept s e = ranges_first s _ ∙ ap (λ (x : Check). first_refused x (unless (shadow_kept s) Shadow (unless (readings_kept s) Reading Accepted))) e
+
+-- the code's two lines after the ranges are that end
+pub chain_is : (s : Segment) {shadow readings : Bool} {inner check : Check} → range_check s ≡ Accepted → check ≡ unless shadow Shadow inner → inner ≡ unless readings Reading Accepted → readings ≡ readings_kept s → shadow ≡ shadow_kept s → segment_check s ≡ check
+chain_is s g e f h k = range_kept s g ∙ sym (simp (e, f, h, k))
+
+-- what a judgement says of the check
+module _ (s : Segment) {j : Judged} (judges : Judges s j) where
+  pub kept_is : {m : ℕ} → j ≡ J.Kept m → (segment_check s ≡ Accepted) × Differs s m
+  unfolding Judges
+  kept_is e = rw e at judges
+
+  pub refused_is : {why : Refusal} → j ≡ J.Refused why → segment_check s ≡ Refused why
+  unfolding Judges
+  refused_is e = rw e at judges
 
 -- ---- a check, and its number
 

@@ -163,6 +163,10 @@ metres_most {s} g = go (leb 15 (up s.wall))
     go true = omega (arith, g.wall.most)
     go false = lit≤ tt
 
+-- the same of what the code works out
+pub few_metres : {s : Segment} {m : ℕ} → Ranged s → m ≡ wall_metres s → m ≤ 10
+few_metres g e = omega (arith, e, metres_most g)
+
 -- the step, r tenths before the loss of n metres
 module _ (n : ℕ) (r : ℤ) (below : Below 2000 r) where
   pub lossless : n < 1 → Exactly (reduced (5 * n) r) (read r)

@@ -60,6 +60,9 @@ pub record Standing (text : List ℕ) (at : ℕ) (line : List ℕ) : Type 0 wher
   pub is : line ≡ until 10 (drop at text)
   pub feed : at + length line < length text
 
+pub found_stands : (text : List ℕ) (at : ℕ) {line : List ℕ} → line ≡ until 10 (drop at text) → at + length line < length text → Standing text at line
+found_stands text at e h = record { is = e; feed = h }
+
 pub line_stands : {text : List ℕ} {at : ℕ} {line : List ℕ} → Standing text at line → lines_of (drop at text) ≡ ended line ∷ lines_of (drop (at + length line + 1) text)
 line_stands {text} {at} {line} w = go (view text at)
   where

@@ -1,4 +1,4 @@
--- No text is refused by 20 to 24: contents that are in range leave room for every line that they announce.
+-- No text is refused by 20 or more: contents that are in range leave room for every line that they announce.
 -- Assumes nothing.
 use mathlib.Core.Path.{◌≡◌, refl, sym, ap, ◌∙◌}
 use Prim.Native.Nat.{ℕ, zero, suc, ◌+◌, ◌≤◌, ◌<◌}

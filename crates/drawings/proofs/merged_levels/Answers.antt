@@ -1,7 +1,7 @@
 -- `drawings::merged_levels` meets its contract.
 use mathlib.Core.Path.{refl}
 use native.Mathlib.Omega.{arith}
-use Rattle.drawings.proofs.Texts.{Small, text_small}
+use Rattle.drawings.proofs.Texts.{text_small}
 use Rattle.drawings.proofs.Answers.{first_refused_lem, second_refused, merge_refused, few_refused, levels_told}
 use Rattle.drawings.proofs.merged_levels.Goals as goal
 
@@ -11,13 +11,13 @@ returns-in-Refused c =
     record { answered = all.0; number = all.1 }
 
 pub overflow_add-entries : goal.overflow_add-entries
-overflow_add-entries c = omega (arith, (let it : Small c.levels_in-one.result = text_small _ c.levels_in-one.ensures c.in_default.is in it).entries, (let it : Small c.levels_in-two.result = text_small _ c.levels_in-two.ensures c.in_default-checked_two.is in it).entries)
+overflow_add-entries c = omega (arith, (text_small _ c.levels_in-one.ensures c.in_default.is).entries, (text_small _ c.levels_in-two.ensures c.in_default-checked_two.is).entries)
 
 pub overflow_add-one : goal.overflow_add-one
-overflow_add-one c = omega (arith, (let it : Small c.levels_in-one.result = text_small _ c.levels_in-one.ensures c.in_default.is in it).segments, (let it : Small c.levels_in-two.result = text_small _ c.levels_in-two.ensures c.in_default-checked_two.is in it).segments)
+overflow_add-one c = omega (arith, (text_small _ c.levels_in-one.ensures c.in_default.is).segments, (text_small _ c.levels_in-two.ensures c.in_default-checked_two.is).segments)
 
 pub overflow_add-entries-2 : goal.overflow_add-entries-2
-overflow_add-entries-2 c = omega (arith, (let it : Small c.levels_in-one.result = text_small _ c.levels_in-one.ensures c.in_default.is in it).entries, (let it : Small c.levels_in-two.result = text_small _ c.levels_in-two.ensures c.in_default-checked_two.is in it).entries)
+overflow_add-entries-2 c = omega (arith, (text_small _ c.levels_in-one.ensures c.in_default.is).entries, (text_small _ c.levels_in-two.ensures c.in_default-checked_two.is).entries)
 
 pub returns-then-cells-entries : goal.returns-then-cells-entries
 returns-then-cells-entries c =
@@ -27,8 +27,8 @@ returns-then-cells-entries c =
 
 pub together-requires : goal.together-requires
 together-requires c =
-    let own = (let it : Small c.levels_in-one.result = text_small _ c.levels_in-one.ensures c.in_default.is in it) in
-    let others = (let it : Small c.levels_in-two.result = text_small _ c.levels_in-two.ensures c.in_default-checked_two.is in it) in
+    let own = text_small _ c.levels_in-one.ensures c.in_default.is in
+    let others = text_small _ c.levels_in-two.ensures c.in_default-checked_two.is in
     record {
       first = omega (arith, own.entries, c.levels_in-one.auto.cells);
       second = omega (arith, others.entries, c.levels_in-two.auto.cells);

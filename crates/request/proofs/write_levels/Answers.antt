@@ -1,6 +1,5 @@
 -- `request::write_levels` meets its contract. The loop's invariant: the levels passed stand in their cells.
 use mathlib.Core.Path.{◌≡◌}
-use Prim.Native.Nat.{◌+◌, ◌≤◌}
 use native.Mathlib.Numerals.{add-one}
 use native.Mathlib.Omega.{arith}
 use lib.IntN.{pos}
@@ -23,7 +22,7 @@ loop-i-preserved c =
     let e = back (get_or a.levels.now v.i (pos 0)) c.cells-1.given in (
       omega arith,
       simp length-set v.invariant.1,
-      rw (e, add-one, v.invariant.2) (paste-suc a.cells.now a.at a.levels.now v.i (pos 0) (omega (arith, (let it : c.args.at + length c.args.levels.now ≤ length c.args.cells.now = omega (arith, c.if-cells-levels.false) in it))) (omega arith)),
+      rw (e, add-one, v.invariant.2) (paste-suc a.cells.now a.at a.levels.now v.i (pos 0) (omega (arith, c.if-cells-levels.false)) (omega arith)),
     )
 
 pub returns : goal.returns
@@ -31,4 +30,4 @@ returns c =
     let v = c.loop-i in
     let a = c.args in
     let e : v.i ≡ length a.levels.now = omega arith in
-    all_written a.levels.now a.cells.now a.at (let it : c.args.at + length c.args.levels.now ≤ length c.args.cells.now = omega (arith, c.if-cells-levels.false) in it) (rw e at v.invariant.2)
+    all_written a.levels.now a.cells.now a.at (omega (arith, c.if-cells-levels.false)) (rw e at v.invariant.2)

@@ -6,14 +6,17 @@ use Rattle.study.specs.Add.{ours, segment_answer, add_segment, with_segment}
 use Rattle.study.proofs.Additions.{refused_keeps, accepted_takes, segment_taken, segment_added}
 use Rattle.study.proofs.add_segment.Goals as goal
 
+accepted : (c : goal.In-Accepted) → segment_answer ours c.args.study.count c.args.segment ≡ Accepted
+accepted c = sym c.segment_answer-check.ensures.is ∙ c.in-Accepted.is
+
 pub offset_bounds-study-at : goal.offset_bounds-study-at
-offset_bounds-study-at c = omega (arith, segment_taken ours _ _ (let it : segment_answer ours c.args.study.count c.args.segment ≡ Accepted = sym c.segment_answer-check.ensures.is ∙ c.in-Accepted.is in it))
+offset_bounds-study-at c = omega (arith, segment_taken ours _ _ (accepted c))
 
 pub bounds-study-at : goal.bounds-study-at
-bounds-study-at c = (segment_taken ours _ _ (let it : segment_answer ours c.args.study.count c.args.segment ≡ Accepted = sym c.segment_answer-check.ensures.is ∙ c.in-Accepted.is in it)).room
+bounds-study-at c = (segment_taken ours _ _ (accepted c)).room
 
 pub overflow_add-study : goal.overflow_add-study
-overflow_add-study c = omega (arith, segment_taken ours _ _ (let it : segment_answer ours c.args.study.count c.args.segment ≡ Accepted = sym c.segment_answer-check.ensures.is ∙ c.in-Accepted.is in it))
+overflow_add-study c = omega (arith, segment_taken ours _ _ (accepted c))
 
 pub returns-in-Accepted : goal.returns-in-Accepted
 unfolding add_segment with_segment

@@ -2,7 +2,7 @@
 use native.Mathlib.Omega.{arith}
 use Rattle.lines.specs.Lines.{segment_of}
 use Rattle.text.specs.Text.{segment_kind}
-use Rattle.text.proofs.Places.{Standing, unended_refused, fields_found}
+use Rattle.text.proofs.Places.{found_stands, unended_refused, fields_found}
 use Rattle.text.proofs.Steps.{segment_malformed}
 use Rattle.text.proofs.segment_fields.Goals as goal
 
@@ -11,8 +11,8 @@ returns-then-text-end c st =
     unended_refused segment_kind st c.args.text.now c.args.at c.line_at-line.ensures (omega arith) c.fault_at.ensures
 
 pub returns-in_default : goal.returns-in_default
-returns-in_default c st = segment_malformed (let it : Standing c.args.text.now c.args.at c.line_at-line.result.now = record { is = c.line_at-line.ensures; feed = omega arith } in it) c.segment_of.ensures c.in_default.is st
+returns-in_default c st = segment_malformed (found_stands c.args.text.now c.args.at c.line_at-line.ensures (omega arith)) c.segment_of.ensures c.in_default.is st
 
 pub returns : goal.returns
 returns c =
-    fields_found segment_of (let it : Standing c.args.text.now c.args.at c.line_at-line.result.now = record { is = c.line_at-line.ensures; feed = omega arith } in it) c.segment_of.ensures c.in-Fields.is
+    fields_found segment_of (found_stands c.args.text.now c.args.at c.line_at-line.ensures (omega arith)) c.segment_of.ensures c.in-Fields.is

@@ -35,4 +35,10 @@ loop-i-preserved c =
 
 pub returns : goal.returns
 returns c plan few works =
-    worked_answer works few c.loop-i.invariant.1.0 (rw ((let it : let a = c.args in let n = length a.places.now in take n c.loop-i.day ≡ cells_in Day a.tenths.now (take n a.trains) a.places.now = let v = c.loop-i in let a = c.args in cells_all Day a.tenths.now (take (length a.places.now) a.trains) a.places.now v.i v.day v.invariant.1.1 (omega arith) v.invariant.3.0 in it), (let it : let a = c.args in let n = length a.places.now in take n c.loop-i.night ≡ cells_in Night a.tenths.now (take n a.trains) a.places.now = let v = c.loop-i in let a = c.args in cells_all Night a.tenths.now (take (length a.places.now) a.trains) a.places.now v.i v.night v.invariant.1.1 (omega arith) v.invariant.3.1 in it)) at c.levels_from.ensures.answered)
+    let v = c.loop-i in
+    let a = c.args in
+    let n = length a.places.now in
+    let ts = take n a.trains in
+    let days : take n v.day ≡ cells_in Day a.tenths.now ts a.places.now = cells_all Day a.tenths.now ts a.places.now v.i v.day v.invariant.1.1 (omega arith) v.invariant.3.0 in
+    let nights : take n v.night ≡ cells_in Night a.tenths.now ts a.places.now = cells_all Night a.tenths.now ts a.places.now v.i v.night v.invariant.1.1 (omega arith) v.invariant.3.1 in
+    worked_answer works few v.invariant.1.0 (rw (days, nights) at c.levels_from.ensures.answered)

@@ -1,7 +1,5 @@
 -- `lines::contents::contents_of` meets its contract. The loop's invariant: the numbers read so far, and those from here on, are all of the line's.
-use Rattle.std.proofs.Common.{◌≡◌, sym, refl, ◌∙◌, arith, rules}
-use Rattle.lines.specs.Numbers.{number_at}
-use Rattle.lines.specs.declared.numbers.Number.TheVariants as N
+use Rattle.std.proofs.Common.{sym, refl, ◌∙◌, arith, rules}
 use Rattle.lines.proofs.Positions.{next_number}
 use Rattle.lines.proofs.Entries.{contents_wrong, contents_below, reached_first, reached_next, reached_wrong, ended_other, ended_exceeded, ended_none, ended_good, contents_refused, contents_counted}
 use Rattle.lines.proofs.contents.contents_of.Goals as goal
@@ -10,11 +8,11 @@ pub returns-in_default : goal.returns-in_default
 returns-in_default c = contents_refused refl (contents_wrong _ _ (sym c.number_at.ensures ∙ c.in_default.is))
 
 pub returns-then-first-lt0 : goal.returns-then-first-lt0
-returns-then-first-lt0 c = contents_refused refl (contents_below _ _ (let it : number_at c.args.line.now 0 ≡ N.Value c.in-Value.first c.in-Value.after = sym c.number_at.ensures ∙ c.in-Value.is in it) (search rules) c.if-first-lt0.true)
+returns-then-first-lt0 c = contents_refused refl (contents_below _ _ (sym c.number_at.ensures ∙ c.in-Value.is) (search rules) c.if-first-lt0.true)
 
 pub loop-at-init : goal.loop-at-init
 loop-at-init c =
-    (refl, reached_first _ _ _ (omega arith) (let it : number_at c.args.line.now 0 ≡ N.Value c.in-Value.first c.in-Value.after = sym c.number_at.ensures ∙ c.in-Value.is in it) (search rules) c.if-first-lt0.false)
+    (refl, reached_first _ _ _ (omega arith) (sym c.number_at.ensures ∙ c.in-Value.is) (search rules) c.if-first-lt0.false)
 
 pub returns-in_default-number_at : goal.returns-in_default-number_at
 returns-in_default-number_at c =

@@ -1,5 +1,5 @@
 -- `lines::numbers::positive_at` meets its contract. The loop's invariant: the digits passed are those of the word, at most five, of the value v.
-use Rattle.std.proofs.Common.{◌≡◌, ◌+◌, get_or, arith}
+use Rattle.std.proofs.Common.{arith}
 use Rattle.lines.proofs.Digits.{passed_more, digit_is, no_digit}
 use Rattle.lines.proofs.Values.{above_stop, above_other, above_long, above_end}
 use Rattle.lines.proofs.numbers.positive_at.Goals as goal
@@ -15,10 +15,10 @@ returns-then-digit-gt9 c =
 
 pub returns-then-at-i : goal.returns-then-at-i
 returns-then-at-i c =
-    above_long c.args.line.now c.args.at (omega arith) (omega arith) c.loop-i.invariant (omega arith) (λ q. omega (arith, (let it : get_or c.args.line.now c.loop-i.i 0 ≡ c.wrapping_sub_u8-digit.result + 48 = digit_is c.wrapping_sub_u8-digit.ensures.value c.if-digit-gt9.false in it))) c.if-at-i.true
+    above_long c.args.line.now c.args.at (omega arith) (omega arith) c.loop-i.invariant (omega arith) (λ q. omega (arith, (digit_is c.wrapping_sub_u8-digit.ensures.value c.if-digit-gt9.false))) c.if-at-i.true
 
 pub loop-i-preserved : goal.loop-i-preserved
-loop-i-preserved c = passed_more c.loop-i.invariant (omega arith) (omega arith) (let it : get_or c.args.line.now c.loop-i.i 0 ≡ c.wrapping_sub_u8-digit.result + 48 = digit_is c.wrapping_sub_u8-digit.ensures.value c.if-digit-gt9.false in it) c.if-digit-gt9.false
+loop-i-preserved c = passed_more c.loop-i.invariant (omega arith) (omega arith) (digit_is c.wrapping_sub_u8-digit.ensures.value c.if-digit-gt9.false) c.if-digit-gt9.false
 
 pub returns : goal.returns
 returns c =
