@@ -23,7 +23,6 @@ import citations
 LONG = {
     "lines segment_of": "documents 01 and 02 ask for a `let .. else` for each of the 15 fields",
     "text answer_lines": "document 01 asks for a labelled nest of the lines, and each of its ways ends the reading",
-    "words put_words": "an arm for each refusal, whose words are one long line",
 }
 # Written by tools/tables.py: a table's function has an arm for each entry.
 TABLES = {"crates/small_logs/src/lib.rt", "crates/decibel_tables/src/lib.rt", "crates/energy_tables/src/lib.rt"}
@@ -49,16 +48,8 @@ UNCITED = {
 
 # Lemmas, by file, that answered a goal which the check finds by itself since the port: the port dropped nothing.
 SPARE = {
-    "crates/decibel/proofs/Tenfolds.antt": "tenfold_start",
-    "crates/decibel/proofs/Walk.antt": "not_first not_last",
-    "crates/decibel/proofs/Words.antt": "wide_mul difference_back",
-    "crates/decibel_tables/proofs/Match.antt": "arm",
-    "crates/drawings/proofs/Texts.antt": "without_mark without_none",
     "crates/emission/proofs/Emission.antt": "vehicles_fit base_fit",
     "crates/emission/proofs/SpeedStep.antt": "speed_fits",
-    "crates/energy/proofs/Cells.antt": "figure_most",
-    "crates/energy/proofs/Named.antt": "figure_small",
-    "crates/entitlement/proofs/Combined.antt": "held_low held_high held-within wide_raised",
     "crates/figures/proofs/Signs.antt": "below_zero not_below wide_abs_fits wide_sum cast_fits",
     "crates/figures/proofs/Squares.antt": "square_cast",
     "crates/lines/proofs/Bytes.antt": "sought_none",
@@ -72,15 +63,9 @@ SPARE = {
     "crates/propagation/proofs/WallLoss.antt": "wall_most",
     "crates/request/proofs/Counts.antt": "none_yet none_more none_all",
     "crates/request/proofs/Found.antt": "filled_none filled_more",
-    "crates/speeds/proofs/Search.antt": "search_starts",
-    "crates/speeds/proofs/Trials.antt": "wide_fits ten_fits bound_fits tenths_are",
     "crates/study/proofs/Remaining.antt": "at_first_entry",
     "crates/text/proofs/Steps.antt": "fault_line segment_unread train_unread",
     "crates/text/proofs/Worked.antt": "held_places",
-    "crates/text_speeds/proofs/Passed.antt": "line_within",
-    "crates/words/proofs/Notices.antt": "put_as",
-    "crates/writing/proofs/Pages.antt": "put_end",
-    "crates/writing/proofs/Signs.antt": "back_wide opposite",
 }
 
 FUNCTION = re.compile(

@@ -3,8 +3,8 @@
 
     python3 tools/believed.py [--check]
 
-A definition must be believed if the contract of a public function or a top theorem (ROOTS) cites it, directly or through other
-definitions. Per crate: its lines, those of the other definitions that contracts of private functions cite, and those of the rest, which
+A definition must be believed if the contract of a public function, what a type promises in a ghost clause or a top theorem (ROOTS)
+cites it, directly or through other definitions. Per crate: its lines, those of the other definitions that contracts of private functions cite, and those of the rest, which
 proofs alone cite. Lines are counted as tools/lines.py does. A Lists.antt is not counted: tools/tables.py writes it, and a law holds it
 against its formula. --check names each definition that stands at a place where it does not belong, and then exits with 1:
 
@@ -157,6 +157,12 @@ def contracts(source):
             yield bool(match["public"]), stated, parameters
 
 
+def promises(source):
+    """What the types of a .rt file promise: the ghost clauses of their impls and the invariants of their fields."""
+    for match in re.finditer(r"^ +ghost \w+(?: =|:) \{(.*)\}[;,]$", source.text, re.M):
+        yield match[1]
+
+
 def reached(found):
     """Those definitions and all that they cite, on and on."""
     whole, rest = set(), list(found)
@@ -185,6 +191,8 @@ class Tree:
             if source.path.suffix == ".rt":
                 for is_public, stated, parameters in contracts(source):
                     (public if is_public else private).update(names[source.path].cited(stated, parameters))
+                for stated in promises(source):
+                    public.update(names[source.path].cited(stated, set()))
             elif source.path.parts[2] == "proofs":
                 proofs.update(names[source.path].cited(LABEL.sub(r"\1", source.text), set()))
         self.public = reached(public)

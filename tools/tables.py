@@ -1,6 +1,6 @@
 #!/usr/bin/env python3
-"""Writes the crates small_logs, decibel_tables and energy_tables from their formulas: each table as a list of specs/Lists.antt, as a
-function of an index in src/lib.rt, and that function's proof.
+"""Writes the crates small_logs, decibel_tables and energy_tables from their formulas: each table as an array of src/lib.rt, as a list of
+specs/Lists.antt, and that the array is the list, in proofs/Arrays.antt.
 
 Every entry is settled in whole numbers. A decimal estimate only says where to look: an entry is kept when it passes its test and
 its neighbour does not, by powers of whole numbers. With --check nothing is written; the committed files are compared.
@@ -76,23 +76,20 @@ def ten_log(n):
 
 
 def small_logs():
-    """A function's proof grows with the square of its arms, so the accepted speeds are cut in three."""
     return [
-        ("small_log", "10 log n in tenths for n below 200, of 0 that of 1", [ten_log(n) for n in range(200)]),
-        ("twenty_log_lower", "20 log v in tenths for v below 101, of 0 that of 1", [ten_log(v * v) for v in range(101)]),
-        ("twenty_log_middle", "20 log v in tenths for v from 101 to 200, counted from 101", [ten_log(v * v) for v in range(101, 201)]),
-        ("twenty_log_upper", "20 log v in tenths for v from 201 to 300, counted from 201", [ten_log(v * v) for v in range(201, 301)]),
+        ("small_log", "10 log n in tenths for n below 200, of 0 that of 1", "u16", [ten_log(n) for n in range(200)]),
+        ("twenty_log", "20 log v in tenths for v below 301, of 0 that of 1", "u16", [ten_log(v * v) for v in range(301)]),
     ]
 
 
 def decibel_tables():
     return [
-        ("decade", "Where each tenth of 10 log n begins, from 85.1 to 95.2 dB", rising(200, 1, 2, 2, 1703, 3_200_000_000)),
-        ("shadow", "Where each tenth of the shadow formula begins", falling(155, 10**7, 500, 2, 391, 5_127_000_000)),
-        ("distance", "Where each tenth of the distance formula begins", falling(100, 6_250_000, 400, 2, 481, 925_000_000)),
-        ("illuminated", "Where each tenth of the illuminated formula begins", rising(214, 10**7, 1000, 10, 357, 4_010_000)),
-        ("fine", "Where each step of 500 microdecibels begins, from 10^9 on", rising(20_000, 1, 0, 1, 180_000, 1_023_292_992)),
-        ("sine", "The sine of 0 to 90 degrees in billionths", [sine(degrees) for degrees in range(91)]),
+        ("decade", "Where each tenth of 10 log n begins, from 85.1 to 95.2 dB", "u64", rising(200, 1, 2, 2, 1703, 3_200_000_000)),
+        ("shadow", "Where each tenth of the shadow formula begins", "u64", falling(155, 10**7, 500, 2, 391, 5_127_000_000)),
+        ("distance", "Where each tenth of the distance formula begins", "u64", falling(100, 6_250_000, 400, 2, 481, 925_000_000)),
+        ("illuminated", "Where each tenth of the illuminated formula begins", "u64", rising(214, 10**7, 1000, 10, 357, 4_010_000)),
+        ("fine", "Where each step of 500 microdecibels begins, from 10^9 on", "u64", rising(20_000, 1, 0, 1, 180_000, 1_023_292_992)),
+        ("sine", "The sine of 0 to 90 degrees in billionths", "u32", [sine(degrees) for degrees in range(91)]),
     ]
 
 
@@ -102,86 +99,65 @@ def energy_tables():
     fall = [greatest(lambda w: w**100 * 10**j <= whole, one * tenfold(Fraction(-j, 100))) for j in range(100)]
     rise = [greatest(lambda v: v**100 <= whole * 10**k, one * tenfold(Fraction(k, 100))) for k in range(199)]
     return [
-        ("weight", "The weight of a level 0 to 99 tenths below the loudest", fall),
-        ("power", "The powers of ten from 1 to 10^15", [10**j for j in range(16)]),
-        ("mark_begin", "Where the mark at each tie of a total begins, the 0th none", [0] + [1_011_230 * v // 10**6 for v in rise]),
-        ("mark_end", "Where the mark at each tie of a total ends, the 0th none", [0] + [1_011_929 * v // 10**6 for v in rise]),
+        ("weight", "The weight of a level 0 to 99 tenths below the loudest", "u64", fall),
+        ("power", "The powers of ten from 1 to 10^15", "u64", [10**j for j in range(16)]),
+        ("mark_begin", "Where the mark at each tie of a total begins, the 0th none", "u64", [0] + [1_011_230 * v // 10**6 for v in rise]),
+        ("mark_end", "Where the mark at each tie of a total ends, the 0th none", "u64", [0] + [1_011_929 * v // 10**6 for v in rise]),
     ]
 
 
-# each crate's tables, what their functions answer, and those of them that are searched, by number
-CRATES = {
-    "small_logs": (small_logs, "u32", []),
-    "decibel_tables": (decibel_tables, "u64", ["decade", "shadow", "distance", "illuminated", "fine"]),
-    "energy_tables": (energy_tables, "u64", []),
-}
+CRATES = {"small_logs": small_logs, "decibel_tables": decibel_tables, "energy_tables": energy_tables}
 WRITTEN = "written by tools/tables.py from the formulas, in whole numbers."
 
 
-def listed(name):
-    """The name of a function's list."""
-    return name + "_list"
-
-
-def entries(values):
+def lined(words, width=100):
+    """Words in lines of up to so many columns."""
     lines, line = [], "   "
-    for value in values:
-        word = f" {value} ∷"
-        if len(line) + len(word) > 100:
+    for word in words:
+        if len(line) + len(word) + 1 > width:
             lines.append(line)
             line = "   "
-        line += word
-    return "\n".join(lines + [line + " []"])
+        line += f" {word}"
+    return "\n".join(lines + [line])
 
 
-def lists(tables, searched):
-    text = f"-- The tables as lists: {WRITTEN}\n-- Assumes nothing.\n"
-    text += "use Rattle.std.specs.Prelude.{List, [], ◌∷◌, ℕ%s}\n" % (", zero, suc" if searched else "")
-    for name, says, values in tables:
-        text += f"\n-- {says[0].lower()}{says[1:]}\nunfoldable pub {listed(name)} : List ℕ\n{listed(name)} =\n{entries(values)}\n"
-    if searched:
-        text += "\n-- the tables that are searched, by number\nabbrev pub list_of : ℕ → List ℕ\n"
-        number = "zero"
-        for name in searched:
-            text += f"list_of {number} = {listed(name)}\n"
-            number = number.replace("zero", "(suc zero)")
-        text += f"list_of {number.replace('zero', 'number')} = []\n"
+def lists(tables):
+    text = f"-- The tables as lists: {WRITTEN}\n-- Assumes nothing.\nuse Rattle.std.specs.Prelude.{{List, [], ◌∷◌, ℕ}}\n"
+    for name, says, _, values in tables:
+        text += f"\n-- {says[0].lower()}{says[1:]}\nunfoldable pub {name}_list : List ℕ\n{name}_list =\n"
+        text += lined([f"{value} ∷" for value in values] + ["[]"]) + "\n"
     return text
 
 
-def source(crate, tables, answer, searched):
-    cited = [listed(name) for name, _, _ in tables] + (["list_of"] if searched else [])
-    text = "// Tables as functions of an index: constants that the compiler keeps, so that nobody builds or lends them.\n"
-    text += f"// {WRITTEN.capitalize()}\n#![tactic(auto)]\n\n"
-    text += "ghost use Rattle.std.specs.Prelude.{◌≡◌, get_or};\n"
-    text += f"ghost use Rattle.{crate}.specs.Lists.{{{', '.join(cited)}}};\n"
-    for name, says, values in tables:
-        arms = "".join(f"        {i} => {value},\n" for i, value in enumerate(values))
-        text += f"\n// {says}; 0 past the last.\n#[tactic(auto, unfolding(crate::specs::Lists::{listed(name)}))]\npub fn {name}(i: usize) -> {answer}\n    ensures {{ result ≡ get_or {listed(name)} i 0 }}\n"
-        text += f"{{\n    match i {{\n{arms}        _ => 0,\n    }}\n}}\n"
-    if searched:
-        arms = "".join(f"        {number} => {name}(i),\n" for number, name in enumerate(searched))
-        text += "\n// Entry i of a table by its number, as the arms say; 0 of any other.\npub fn entry(table: usize, i: usize) -> %s\n" % answer
-        text += f"    ensures {{ result ≡ get_or (list_of table) i 0 }}\n{{\n    match table {{\n{arms}        _ => 0,\n    }}\n}}\n"
+def array(values):
+    """As `rt fmt` lays it out: entries of more than ten digits have a line each."""
+    words = [f"{value}," for value in values]
+    return lined(words, 99) if max(map(len, words)) <= 11 else "\n".join(f"    {word}" for word in words)
+
+
+def source(tables):
+    text = f"// Tables that the crates above read in place: each is the list of its name in specs/Lists.antt (proofs/Arrays.antt).\n// {WRITTEN.capitalize()}\n"
+    for name, says, kind, values in tables:
+        text += f"\n// {says}.\npub static {name.upper()}: [{kind}; {len(values)}] = [\n{array(values)}\n];\n"
     return text
 
 
-def proof(crate, name):
-    """The one goal that the check leaves: no key is the index."""
-    text = f"-- Past the last key of `{crate}::{name}` its list has no entry.\n"
-    text += f"use Rattle.{crate}.specs.Lists.{{{listed(name)}}}\nuse Rattle.decibel_tables.proofs.Match.{{past}}\n"
-    text += f"use Rattle.{crate}.proofs.{name}.Goals as goal\n\npub returns-in_default : goal.returns-in_default\n"
-    return text + f"unfolding {listed(name)}\nreturns-in_default c = past {listed(name)} c.args.i c.in_default.in_default-own.rest\n"
+def proof(crate, tables):
+    arrays, names = ", ".join(name.upper() for name, *_ in tables), ", ".join(f"{name}_list" for name, *_ in tables)
+    text = f"-- Each array is its list: {WRITTEN}\n-- Assumes nothing.\nuse mathlib.Core.Path.{{◌≡◌, refl}}\n"
+    text += f"use Rattle.{crate}.specs.declared.TheConstants.{{{arrays}}}\nuse Rattle.{crate}.specs.Lists.{{{names}}}\n"
+    for name, *_ in tables:
+        text += f"\npub {name}_is : {name.upper()} ≡ {name}_list\nunfolding {name}_list\n{name}_is = refl\n"
+    return text
 
 
 def files():
     """Every file that is written, with its text."""
-    for crate, (made, answer, searched) in CRATES.items():
+    for crate, made in CRATES.items():
         tables = made()
-        yield f"crates/{crate}/src/lib.rt", source(crate, tables, answer, searched)
-        yield f"crates/{crate}/specs/Lists.antt", lists(tables, searched)
-        for name, _, _ in tables:
-            yield f"crates/{crate}/proofs/{name}/Answers.antt", proof(crate, name)
+        yield f"crates/{crate}/src/lib.rt", source(tables)
+        yield f"crates/{crate}/specs/Lists.antt", lists(tables)
+        yield f"crates/{crate}/proofs/Arrays.antt", proof(crate, tables)
 
 
 def differs(path, text):

@@ -1,22 +1,24 @@
--- What is known of a breakdown's figures where they are read: each fits its type, so what is read back is the figure.
+-- What is read of a breakdown's figures: each is small, so what is read back is the figure.
 -- Assumes nothing.
 use mathlib.Core.Path.{◌≡◌}
-use denote.Laws.{valss}
-use denote.Struct.Struct.{AreAll}
-use denote.Struct.Declared.{Declared, fields}
-use denote.Struct.Laws.{Laws, spells}
-use Rattle.decibel.proofs.Words.{back}
+use native.Mathlib.Omega.{arith}
+use lib.IntN.{ℤ, pos, negsuc}
+use mir.Facts.{to_z-of_z}
+use mir.Syntax.{w32}
+use mir.Val.{SFits}
+use Rattle.figures.specs.Bounds.{Below}
 use Rattle.figures.proofs.Signs.{read}
 use Rattle.propagation.specs.declared.SegmentBreakdown.{SegmentBreakdown}
-use Rattle.propagation.specs.contracts.SegmentBreakdown.{the_type as segment-type}
-use Rattle.propagation.proofs.SegmentBreakdown.TheLaws.{the_laws as segment-laws}
+use Rattle.propagation.specs.Results.{PartsBelow}
 use Rattle.emission.specs.declared.TrainBreakdown.{TrainBreakdown}
-use Rattle.emission.specs.contracts.TrainBreakdown.{the_type as train-type}
-use Rattle.emission.proofs.TrainBreakdown.TheLaws.{the_laws as train-laws}
+use Rattle.emission.specs.Results.{TrainParted}
 
--- what the borrow checker gives of a struct's value
-abbrev Told : (T : Declared) → Laws T → T.D → Type 0
-Told T L v = AreAll (fields T) (T.to v) (valss (fields T) (spells T.parts L) (T.to v))
+small_fits : (z : ℤ) → Below 2000 z → SFits w32 z
+small_fits (pos n) h = record { sfits = omega (arith, h.most, h.least) }
+small_fits (negsuc n) h = record { sfits = omega (arith, h.most, h.least) }
+
+small_read : (z : ℤ) → Below 2000 z → read z ≡ z
+small_read z h = to_z-of_z (small_fits z h)
 
 pub record SegmentRead (b : SegmentBreakdown) : Type 0 where
   pub distance : read b.distance ≡ b.distance
@@ -29,18 +31,18 @@ pub record SegmentRead (b : SegmentBreakdown) : Type 0 where
   pub track : read b.track ≡ b.track
   pub ballast : read b.ballast ≡ b.ballast
 
-pub segment_read : (b : SegmentBreakdown) → Told segment-type segment-laws b → SegmentRead b
-segment_read b g =
+pub segment_read : (b : SegmentBreakdown) → PartsBelow b → SegmentRead b
+segment_read b h =
     record {
-      distance = back b.distance g.0.1;
-      air = back b.air g.1.0.1;
-      angle = back b.angle g.1.1.0.1;
-      opposite = back b.opposite g.1.1.1.0.1;
-      path = back b.path g.1.1.1.1.0.1;
-      facade = back b.facade g.1.1.1.1.1.1.0.1;
-      chart = back b.chart g.1.1.1.1.1.1.1.0.1;
-      track = back b.track g.1.1.1.1.1.1.1.1.0.1;
-      ballast = back b.ballast g.1.1.1.1.1.1.1.1.1.0.1;
+      distance = small_read b.distance h.distance;
+      air = small_read b.air h.air;
+      angle = small_read b.angle h.angle;
+      opposite = small_read b.opposite h.opposite;
+      path = small_read b.path h.path;
+      facade = small_read b.facade h.facade;
+      chart = small_read b.chart h.chart;
+      track = small_read b.track h.track;
+      ballast = small_read b.ballast h.ballast;
     }
 
 pub record TrainRead (b : TrainBreakdown) : Type 0 where
@@ -48,5 +50,6 @@ pub record TrainRead (b : TrainBreakdown) : Type 0 where
   pub vehicles : read b.vehicles ≡ b.vehicles
   pub rolling : read b.rolling ≡ b.rolling
 
-pub train_read : (b : TrainBreakdown) → Told train-type train-laws b → TrainRead b
-train_read b g = record { speed = back b.speed g.0.1; vehicles = back b.vehicles g.1.0.1; rolling = back b.rolling g.1.1.0.1 }
+pub train_read : {v : TrainBreakdown} (b : TrainBreakdown) → TrainParted v b → TrainRead b
+train_read b h =
+    record { speed = small_read b.speed h.speed; vehicles = small_read b.vehicles h.vehicles; rolling = small_read b.rolling h.rolling }

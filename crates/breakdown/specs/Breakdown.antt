@@ -1,13 +1,15 @@
 -- The breakdown of a study and of a text: which lines, in which order.
 -- Assumes nothing.
-use Rattle.std.specs.Prelude.{List, [], ◌∷◌, ◌++◌, ℕ, zero, suc, ◌+◌, ℤ, pos, length, get_or, replicate}
+use mathlib.Core.List.{flatten}
+use Rattle.std.specs.Prelude.{◌≡◌, List, [], ◌∷◌, ◌++◌, ℕ, zero, suc, ◌+◌, ℤ, pos, length, get_or, replicate}
 use Rattle.study.specs.declared.Entry.{Entry}
 use Rattle.study.specs.Plan.{Plan, no_entry, segment_at}
 use Rattle.request.specs.Levels.{MarksAllowed, own_marks}
 use Rattle.request.specs.Request.{levels_check, cells_by}
-use Rattle.writing.specs.Pages.{PutEach}
 use Rattle.text.specs.Answer.{plan_in}
-use Rattle.report.specs.Report.{cells_lent, report_of}
+use Rattle.report.specs.Report.{cells_lent, report_of, written}
+use Rattle.breakdown.specs.declared.StudyBreakdown.{StudyBreakdown}
+use Rattle.breakdown.specs.declared.TextBreakdown.{TextBreakdown}
 use Rattle.breakdown.specs.Lines.{segment_parts, place_number, entry_parts}
 
 -- the parts of what stands at the first n places, one place after another
@@ -47,7 +49,27 @@ study_parts plan = segments_parts plan ++ entries_parts plan (cells_of plan)
 unfoldable pub text_parts : List ℕ → List (List ℕ)
 text_parts text = study_parts (plan_in text) ++ (report_of text ∷ [])
 
--- what the breakdown of a text ensures: its parts are put one after another, and 01 allows the marks
-pub record BrokenDown (text before : List ℕ) (at : ℕ) (after : List ℕ) (next : ℕ) : Type 0 where
-  pub put : PutEach before at (text_parts text) after next
+-- ---- as bytes
+
+unfoldable pub segments_bytes : Plan → List ℕ
+segments_bytes plan = flatten (segments_parts plan)
+
+unfoldable pub entries_bytes : Plan → List ℤ → List ℕ
+entries_bytes plan cells = flatten (entries_parts plan cells)
+
+-- what is written of a breakdown
+unfoldable pub study_bytes : StudyBreakdown → List ℕ
+study_bytes b = segments_bytes b.study ++ entries_bytes b.study b.cells
+
+unfoldable pub text_bytes : TextBreakdown → List ℕ
+text_bytes b = study_bytes b.lines ++ written b.outcome
+
+-- what the breakdown of a study ensures: it is written as the study's parts one after another, and 01 allows the marks
+pub record StudyBrokenDown (plan : Plan) (b : StudyBreakdown) : Type 0 where
+  pub bytes : study_bytes b ≡ flatten (study_parts plan)
+  pub allowed : MarksAllowed plan (own_marks plan)
+
+-- and that of a text
+pub record BrokenDown (text : List ℕ) (b : TextBreakdown) : Type 0 where
+  pub bytes : text_bytes b ≡ flatten (text_parts text)
   pub allowed : MarksAllowed (plan_in text) (own_marks (plan_in text))

@@ -2,15 +2,13 @@
 #![tactic(auto)]
 
 ghost use Rattle.std.specs.Prelude.{◌≡◌};
+ghost use Rattle.request.specs.Request.{silent_result};
 ghost use Rattle.c_values.specs.Values.{level_value, line_value, exported_period};
 
 use decibel::Level;
 use request::PeriodResult;
 
-// The largest number of 32 bits.
-const MOST_LINE: u32 = 4294967295;
-
-// A level: whether it is silent, and its tenths, 0 when silent.
+// A level for C, which has no enum with a value: whether it is silent, and its tenths, 0 when silent.
 #[derive(Clone, Copy)]
 pub struct LevelValue {
     pub silent: bool,
@@ -18,6 +16,7 @@ pub struct LevelValue {
 }
 
 // A level's value for a struct of C.
+#[tactic(auto, unfolding(crate::specs::Values::level_value))]
 pub fn level_value(level: Level) -> LevelValue
     ensures { result ≡ level_value level }
 {
@@ -37,11 +36,7 @@ pub fn level_value(level: Level) -> LevelValue
 pub fn line_value(line: usize) -> u32
     ensures { result ≡ line_value line }
 {
-    if line < (MOST_LINE as usize) {
-        line as u32
-    } else {
-        MOST_LINE
-    }
+    u32::try_from(line).unwrap_or(u32::MAX)
 }
 
 // `railnoise_period`: the level in tenths, 0 when silent.
@@ -55,15 +50,30 @@ pub struct RailnoisePeriod {
 }
 
 // A period's result for a struct of C.
+#[tactic(auto, unfolding(crate::specs::Values::level_value, crate::specs::Values::exported_period), using(decibel::proofs::Words::back))]
 pub fn period_value(res: PeriodResult) -> RailnoisePeriod
     ensures { result ≡ exported_period res }
 {
-    let level = res.level;
-    let value = level_value(level);
+    let value = level_value(res.level);
     RailnoisePeriod {
         silent: value.silent,
         level: value.tenths,
         close: res.close,
         met: res.met,
+    }
+}
+
+impl RailnoisePeriod {
+    // What stands beside a refusal: a silent level that rests on no close mark and meets no limit.
+    #[tactic(auto, unfolding(crate::specs::Values::exported_period))]
+    pub fn silent() -> Self
+        ensures { result ≡ exported_period silent_result }
+    {
+        RailnoisePeriod {
+            silent: true,
+            level: 0,
+            close: 0,
+            met: false,
+        }
     }
 }

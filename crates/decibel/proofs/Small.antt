@@ -2,25 +2,26 @@
 -- Assumes nothing.
 use mathlib.Core.Path.{◌≡◌, refl, sym, ◌∙◌, ap, subst}
 use mathlib.Core.Bool.{Bool, not}
-use mathlib.Core.List.{List}
-use Prim.Native.Nat.{ℕ, suc, ◌+◌, ◌-◌, ◌*◌, ◌≤◌, ◌<◌, zero-le}
-use native.Mathlib.Nat.{lt_of_lt_of_le, lt_of_not-le, le_of_lt, mul-le-mul}
+use Prim.Native.Nat.{ℕ, suc, ◌+◌, ◌*◌, ◌≤◌, ◌<◌, min}
+use native.Mathlib.Nat.{lt_of_not-le, le_of_lt, mul-le-mul}
 use native.Mathlib.Decide.{dec_le}
 use native.Mathlib.Omega.{arith}
 use lib.Dec.{T, ltb, ltb→lt, lt→ltb, lit≤}
 use lib.ListN.{get_or}
 use lib.IntN.{ℤ, pos, sub_ℕ}
-use mir.Syntax.{w32, w64}
-use mir.Val.{Fits, SFits, to_z, of_z}
-use mir.Facts.{to_z_pos}
-use Rattle.small_logs.specs.Lists.{small_log_list, twenty_log_lower_list, twenty_log_middle_list, twenty_log_upper_list}
+use lib.Signed.{mag}
+use mir.Syntax.{w64}
+use mir.Val.{Fits}
+use Rattle.small_logs.specs.declared.TheConstants.{SMALL_LOG, TWENTY_LOG}
+use Rattle.small_logs.specs.Lists.{small_log_list, twenty_log_list}
+use Rattle.small_logs.proofs.Arrays.{small_log_is, twenty_log_is}
 use Rattle.decibel.specs.Greatest.{clamp}
 use Rattle.decibel.specs.Round.{nearest}
 use Rattle.decibel.specs.Lookup.{ten_log, fence_at, lowest, highest, tenths_at, Tenth}
 use Rattle.decibel.proofs.Tests.{reaches, both, Values}
 use Rattle.decibel.proofs.Ints.{sub_is, from_parts}
-use Rattle.decibel.proofs.Words.{back}
-use Rattle.decibel.proofs.Greatest.{clamp_over, clamp_same, clamp-within}
+use Rattle.decibel.proofs.Words.{kept, tenth_kept}
+use Rattle.decibel.proofs.Greatest.{clamp_over, clamp-within}
 use Rattle.decibel.proofs.Tenths.{reading}
 use Rattle.decibel.proofs.Table.{both_left, both_right, values_tested}
 
@@ -55,74 +56,42 @@ log_right f i x t =
     let p : 0 < n = omega (arith, clamp-within 1 3200000000 (f i) (lit≤ tt)) in
     (sym (near_decides n x (lt→ltb 0 n p) (both_right (ltb x 1000) (near_tenth n x) t)), ltb→lt x 1000 (both_left (ltb x 1000) (near_tenth n x) t))
 
--- the squares of the numbers from a on
-abbrev square_from : ℕ → ℕ → ℕ
-square_from a i = (i + a) * (i + a)
-
-small_rule : Values TenthOf 200 small_log_list
+small_rule : Values TenthOf 200 SMALL_LOG
 unfolding small_log_list reaches clamp
-small_rule = values_tested (log_test (λ i. i)) (log_right (λ i. i)) refl tt
+small_rule = subst (Values TenthOf 200) (sym small_log_is) (values_tested (log_test (λ i. i)) (log_right (λ i. i)) refl tt)
 
-lower_rule : Values (λ i x. TenthOf (i * i) x) 101 twenty_log_lower_list
-unfolding twenty_log_lower_list reaches clamp
-lower_rule = values_tested (log_test (λ i. i * i)) (log_right (λ i. i * i)) refl tt
+square_rule : Values (λ i x. TenthOf (i * i) x) 301 TWENTY_LOG
+unfolding twenty_log_list reaches clamp
+square_rule = subst (Values (λ i x. TenthOf (i * i) x) 301) (sym twenty_log_is) (values_tested (log_test (λ i. i * i)) (log_right (λ i. i * i)) refl tt)
 
-middle_rule : Values (λ i x. TenthOf (square_from 101 i) x) 100 twenty_log_middle_list
-unfolding twenty_log_middle_list reaches clamp
-middle_rule = values_tested (log_test (square_from 101)) (log_right (square_from 101)) refl tt
+-- what is handed over of an entry
+handed : (n : ℕ) {x : ℕ} {r : ℤ} → TenthOf n x → r ≡ pos x → Tenth (tenths_at ten_log n) (kept r)
+handed n t e = tenth_kept (record { is = e ∙ t.0; small = subst (λ (z : ℤ). mag z < 1000) (sym e) t.1 })
 
-upper_rule : Values (λ i x. TenthOf (square_from 201 i) x) 100 twenty_log_upper_list
-unfolding twenty_log_upper_list reaches clamp
-upper_rule = values_tested (log_test (square_from 201)) (log_right (square_from 201)) refl tt
+pub small_read : (n : ℕ) {r : ℤ} → n < 200 → r ≡ pos (get_or SMALL_LOG n 0) → Tenth (tenths_at ten_log n) (kept r)
+small_read n h e = handed n (small_rule.rule n h) e
 
--- what is handed over of an entry: it fits, and is the tenth
-pub record Handed (n x : ℕ) : Type 0 where
-  pub fits : SFits w32 (pos x)
-  pub is : Tenth (tenths_at ten_log n) (to_z w32 x)
+pub square_read : (v : ℕ) {r : ℤ} → v < 301 → r ≡ pos (get_or TWENTY_LOG v 0) → Tenth (tenths_at ten_log (v * v)) (kept r)
+square_read v h e = handed (v * v) (square_rule.rule v h) e
 
-handed : (n x y : ℕ) → x ≡ y → TenthOf n y → Handed n x
-handed n x y w t =
-    let small : x < 1000 = omega (arith, t.1) in
-    record {
-      fits = record { sfits = lt_of_lt_of_le small (lit≤ tt) };
-      is = rw (to_z_pos w32 {n = x} (lt_of_lt_of_le small (lit≤ tt))) (record { is = ap pos w ∙ t.0; small = small });
-    }
-
-pub small_handed : (n x : ℕ) → n < 200 → x ≡ get_or small_log_list n 0 → Handed n x
-small_handed n x h w = handed n x (get_or small_log_list n 0) w (small_rule.rule n h)
-
-pub lower_handed : (v x : ℕ) → v < 101 → x ≡ get_or twenty_log_lower_list v 0 → Handed (v * v) x
-lower_handed v x h w = handed (v * v) x (get_or twenty_log_lower_list v 0) w (lower_rule.rule v h)
-
-from_handed : (a : ℕ) {xs : List ℕ} → Values (λ i x. TenthOf (square_from a i) x) 100 xs → (v x : ℕ) → a ≤ v → v < a + 100 → x ≡ get_or xs (v - a) 0 → Handed (v * v) x
-from_handed a {xs} values v x l h w =
-    let e : v - a + a ≡ v = omega arith in
-    handed (v * v) x (get_or xs (v - a) 0) w (subst (λ (k : ℕ). TenthOf (k * k) (get_or xs (v - a) 0)) e (values.rule (v - a) (omega arith)))
-
-pub middle_handed : (v x : ℕ) → 101 ≤ v → v < 201 → x ≡ get_or twenty_log_middle_list (v - 101) 0 → Handed (v * v) x
-middle_handed = from_handed 101 middle_rule
-
-pub upper_handed : (v x : ℕ) → 201 ≤ v → v < 301 → x ≡ get_or twenty_log_upper_list (v - 201) 0 → Handed (v * v) x
-upper_handed = from_handed 201 upper_rule
-
--- ---- a number clamped to 60,000, whose square is beyond the range
+-- ---- a number cut down to 60,000, whose square is beyond the range
 
 square_over : (n : ℕ) → 60000 ≤ n → 3200000000 ≡ clamp 1 3200000000 (n * n)
 square_over n h = let m : 3600000000 ≤ n * n = mul-le-mul h h in clamp_over 1 3200000000 (n * n) (omega arith) (omega arith)
 
-module _ (v x : ℕ) (e : x ≡ clamp 0 60000 v) where
+module _ (v : ℕ) {x : ℕ} (e : x ≡ min v 60000) where
   pub square_fits : Fits w64 (x * x)
-  square_fits = let h : x ≤ 60000 = omega (arith, e, (clamp-within 0 60000 v zero-le).1) in omega (arith, mul-le-mul h h)
+  square_fits = let h : x ≤ 60000 = omega arith in omega (arith, mul-le-mul h h)
 
   square_same : tenths_at ten_log (x * x) ≡ tenths_at ten_log (v * v)
   unfolding tenths_at lowest highest
   square_same = go (dec_le v 60000)
     where
       go : Dec (v ≤ 60000) → tenths_at ten_log (x * x) ≡ tenths_at ten_log (v * v)
-      go (yes h) = ap (λ (k : ℕ). tenths_at ten_log (k * k)) (e ∙ sym (clamp_same 0 60000 v zero-le h))
+      go (yes h) = let s : x ≡ v = omega arith in ap (λ (k : ℕ). tenths_at ten_log (k * k)) s
       go (no h) =
           let l : 60000 < v = lt_of_not-le h in
-          ap (λ (k : ℕ). nearest (fence_at ten_log k)) (sym (square_over x (omega (arith, e, clamp_over 0 60000 v zero-le l))) ∙ square_over v (le_of_lt l))
+          ap (λ (k : ℕ). nearest (fence_at ten_log k)) (sym (square_over x (omega arith)) ∙ square_over v (le_of_lt l))
 
-  pub square_handed : (r : ℤ) → Tenth (tenths_at ten_log (x * x)) r → Tenth (tenths_at ten_log (v * v)) (to_z w32 (of_z w32 r))
-  square_handed r t = rw (back r (lt_of_lt_of_le t.small (lit≤ tt))) (subst (λ (z : ℤ). Tenth z r) square_same t)
+  pub square_handed : {r : ℤ} → Tenth (tenths_at ten_log (x * x)) r → Tenth (tenths_at ten_log (v * v)) (kept r)
+  square_handed {r} t = tenth_kept (subst (λ (z : ℤ). Tenth z r) square_same t)

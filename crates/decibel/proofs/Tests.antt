@@ -6,6 +6,7 @@ use mathlib.Core.List.{List, [], ◌∷◌}
 use Prim.Native.Nat.{ℕ, suc, pred, ◌+◌, ◌-◌, ◌*◌, ◌^◌, ◌≤◌, ◌<◌}
 use lib.Dec.{T, leb}
 use lib.ListN.{length, get_or}
+use Rattle.std.specs.List.Sorted.{IsNonDecreasing}
 
 -- s · log (num / den) + k is at least m
 unfoldable pub reaches : ℕ → ℕ → ℕ → ℕ → ℕ → Bool
@@ -35,9 +36,10 @@ rising_test k s den e f i n = reaches k s n den (e * i + f)
 abbrev pub falling_test : (k s num e f : ℕ) → ℕ → ℕ → Bool
 falling_test k s num e f i n = not (reaches k s num n (f - e * i))
 
--- the numbers from low to high stand in a table of so many entries
+-- the numbers from low to high stand in a table of so many entries, which rises
 pub record Fits (count low high : ℕ) (xs : List ℕ) : Type 0 where
   pub size : length xs ≡ count
+  pub rises : IsNonDecreasing xs
   pub first : get_or xs 0 0 ≤ low
   pub last : high < get_or xs (count - 1) 0
 

@@ -1,23 +1,28 @@
 -- A period of both texts: the levels of one after those of the other in the cells, and the result that they give.
 -- Assumes nothing.
 use mathlib.Core.Path.{◌≡◌, refl, sym, ap, ap₂, ◌∙◌}
-use mathlib.Core.Bool.{Bool, true, false, cond}
+use mathlib.Core.Bool.{Bool, cond}
 use mathlib.Core.List.{List, ◌++◌, append_assoc}
-use Prim.Native.Nat.{ℕ, ◌+◌, ◌≤◌}
+use Prim.Native.Nat.{ℕ, ◌+◌, ◌≤◌, ◌<◌}
 use native.Mathlib.Omega.{arith}
+use borrow.Author.Tests.{le-leb, lt-leb}
 use lib.IntN.{ℤ}
 use lib.ListN.{length, take, drop, length-append}
 use lib.Seq.{paste, take-length, length-take-le, take_at, drop_at, drop-drop, take-paste, drop-paste}
 use Rattle.energy.specs.declared.Total.{Total}
-use Rattle.figures.specs.declared.Check.TheVariants.{Accepted}
 use Rattle.figures.specs.declared.Period.{Period}
 use Rattle.figures.specs.declared.Period.TheVariants.{Day, Night}
+use Rattle.figures.specs.declared.Refusal.{Refusal}
+use Rattle.figures.specs.declared.Refusal.TheVariants.{FewCells}
+use Rattle.figures.specs.Periods.{in_period}
+use Rattle.figures.specs.Refusal.{Check, unless, first_refused, answered}
 use Rattle.request.specs.declared.PeriodResult.{PeriodResult}
 use Rattle.request.specs.Levels.{met_by, result_from}
 use Rattle.request.specs.Request.{cells_needed, laid, answer_of}
 use Rattle.request.proofs.Answers.{both_laid}
-use Rattle.drawings.specs.declared.TextLevels.{TextLevels}
-use Rattle.drawings.specs.Private.{total_in, result_of, PeriodLaid, levels_together, Together}
+use Rattle.drawings.specs.declared.Drawing.{Drawing}
+use Rattle.drawings.specs.Private.{total_in, PeriodLaid, entries_together, limits_together, check_together, levels_together, Together}
+use Rattle.std.specs.Prelude.{Ok, Err}
 
 -- one list after another is both at once
 pub pasted_both : (d own others : List ℤ) (at : ℕ) → at ≤ length d → {first after : List ℤ} → first ≡ paste d at own (length own) → after ≡ paste first (at + length own) others (length others)
@@ -41,31 +46,35 @@ pasted_part d levels at n h e a =
     ∙ rw (take-length levels) (take_at levels rest n (sym e))
 
 -- the total's mark counts
-pub one_more : (close : ℕ) {marked : Bool} → marked ≡ true → close + 1 ≡ close + cond marked 1 0
-one_more close e = rw e refl
-
-pub none_more : (close : ℕ) {marked : Bool} → marked ≡ false → close ≡ close + cond marked 1 0
-none_more close e = rw e (omega arith)
-
-module _ (p : Period) (levels : List ℤ) (close : ℕ) {t : Total} (total : t ≡ total_in levels) {met : Bool} (verdict : met ≡ met_by p t.level) where
-  pub result_by : {count : ℕ} → count ≡ close + cond t.close 1 0 → ◌≡◌ {A = PeriodResult} (record { level = t.level; close = count; met = met }) (result_of p levels close)
-  unfolding result_from
-  result_by e = rw (e, verdict, total) refl
+pub result_is : (p : Period) (levels : List ℤ) (close : ℕ) {t : Total} → t ≡ total_in levels → {mark : ℕ} → mark ≡ cond t.close 1 0 → {met : Bool} → met ≡ met_by p t.level
+    → ◌≡◌ {A = PeriodResult} (record { level = t.level; close = close + mark; met = met }) (result_from p (total_in levels) close)
+unfolding result_from
+result_is p levels close total marked verdict = rw (marked, verdict, total) refl
 
 -- ---- both periods
 
--- the day's levels first, the night's after them
-module _ (one two : TextLevels) (own others : List ℤ) where
-  abbrev day : List ℤ
-  day = levels_together Day one two own others
+-- a refusal of both together leaves the cells; else the day's levels come first and the night's after them
+module _ (one two : Drawing) (before : List ℤ) where
+  module _ {check : Check} (is : check ≡ limits_together one two) where
+    pub together_refused : {why : Refusal} → check ≡ Err why → Together one two before before (Err why)
+    unfolding check_together first_refused laid answer_of answered
+    together_refused e = let why = sym is ∙ e in record { cells = rw why refl; answer = rw why refl }
 
-  pub day_length : cells_needed one.entries ≤ length own → cells_needed two.entries ≤ length others → one.entries + two.entries ≡ length day
-  day_length h k =
-      sym (length-append (take one.entries own) (take two.entries others) ∙ ap₂ ◌+◌ (length-take-le one.entries own (omega arith)) (length-take-le two.entries others (omega arith)))
+    module _ (good : check ≡ Ok tt) where
+      within : limits_together one two ≡ Ok tt
+      within = sym is ∙ good
 
-  pub both_periods : (n m at : ℕ) → n ≡ one.entries → m ≡ two.entries → at ≡ length day → {before mid after : List ℤ} {d e : PeriodResult} → PeriodLaid Day day (one.day + two.day) 0 before mid d
-      → PeriodLaid Night (take n (drop one.entries own) ++ take m (drop two.entries others)) (one.night + two.night) at mid after e → Together one two own others before after (record { check = Accepted; day = d; night = e })
-  unfolding laid answer_of
-  both_periods n m at a b c {before} d e =
-      let night = rw (a, b, c) at e in
-      record { cells = both_laid day (levels_together Night one two own others) before d.cells night.cells; answer = rw (d.result, night.result) refl }
+      pub together_few : length before < cells_needed (entries_together one two) → Together one two before before (Err FewCells)
+      unfolding check_together first_refused unless laid answer_of answered
+      together_few h = let lacks = lt-leb (cells_needed (entries_together one two)) (length before) h in record { cells = rw (within, lacks) refl; answer = rw (within, lacks) refl }
+
+      pub both_periods : cells_needed (entries_together one two) ≤ length before → {mid after : List ℤ} {d e : PeriodResult}
+          → PeriodLaid Day one.parts.day two.parts.day 0 before mid d → PeriodLaid Night one.parts.night two.parts.night (entries_together one two) mid after e → Together one two before after (Ok (record { day = d; night = e }))
+      unfolding check_together first_refused unless laid answer_of answered in_period
+      both_periods h d e =
+          let night = rw (sym (length-append one.parts.day.levels.now two.parts.day.levels.now)) at e.cells in
+          let enough = le-leb (cells_needed (entries_together one two)) (length before) h in
+          record {
+            cells = both_laid (levels_together Day one two) (levels_together Night one two) before d.cells night ∙ rw (within, enough) refl;
+            answer = rw (within, enough, d.result, e.result) refl;
+          }

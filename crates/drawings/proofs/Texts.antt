@@ -1,101 +1,161 @@
 -- What one text gives: its levels in the cells, and for each period how many segments with trains are marked.
 -- Assumes nothing.
 use mathlib.Core.Path.{◌≡◌, refl, sym, ap, ◌∙◌}
-use mathlib.Core.Bool.{true, false}
-use mathlib.Core.List.{List}
-use Prim.Native.Nat.{ℕ, ◌+◌, ◌-◌, ◌≤◌}
+use mathlib.Core.Bool.{false≢true}
+use mathlib.Core.List.{List, map}
+use Prim.Native.Nat.{ℕ, ◌+◌}
 use native.Mathlib.Omega.{arith}
 use lib.IntN.{ℤ}
-use lib.ListN.{length}
-use Rattle.energy.specs.declared.Total.{Total}
-use Rattle.figures.specs.declared.Check.TheVariants.{Accepted}
+use lib.ListN.{length, take, drop}
 use Rattle.figures.specs.declared.Period.{Period}
+use Rattle.figures.specs.declared.Periods.{Periods}
+use Rattle.figures.specs.Periods.{in_period}
+use Rattle.figures.specs.Refusal.{Check, answered}
 use Rattle.figures.specs.declared.Period.TheVariants.{Day, Night}
 use Rattle.study.specs.Plan.{Plan}
 use Rattle.study.specs.Add.{ours}
 use Rattle.request.specs.declared.PeriodResult.{PeriodResult}
-use Rattle.request.specs.Levels.{own_marks, close_segments, result_from, result_by}
+use Rattle.request.specs.Levels.{own_marks, levels_of, cell_of, close_segments, result_from, result_by}
 use Rattle.request.specs.Request.{cells_needed, first_cell, answer_of}
-use Rattle.request.proofs.Cells.{cells_of}
+use Rattle.request.proofs.Cells.{cells_of, cells_length}
 use Rattle.request.proofs.Counts.{close_most}
 use Rattle.request.proofs.Results.{result_is}
 use Rattle.request.proofs.Laid.{own_cells}
-use Rattle.request.proofs.Demand3.{ours_fit}
-use Rattle.text.specs.declared.TextAnswer.{TextAnswer}
 use Rattle.text.specs.Text.{read_text}
-use Rattle.text.specs.Answer.{plan_in, TextAnswered}
-use Rattle.text.proofs.Runs.{text_held}
+use Rattle.text.specs.Answer.{TextAnswer, check_at, answer_with, plan_in, text_answer, TextAnswered}
+use Rattle.text.proofs.Runs.{text_held, accepted_line}
 use Rattle.text.proofs.EnoughCells.{answer_is, told, period_cells}
-use Rattle.drawings.specs.declared.TextLevels.{TextLevels}
-use Rattle.drawings.specs.Private.{total_in, total_marks, Announced, cells_in, close_in, Given, TextGives}
-
--- ---- a close count without the total's own mark
-
-module _ (cells : List ℤ) {t : Total} (e : t ≡ total_in cells) (close : ℕ) where
-  pub without_mark : t.close ≡ true → close - 1 ≡ close - total_marks cells
-  without_mark h = rw (← e, h) refl
-
-  pub without_none : t.close ≡ false → close ≡ close - total_marks cells
-  without_none h = rw (← e, h) (omega arith)
+use Rattle.drawings.specs.declared.MergedFault.{MergedFault}
+use Rattle.drawings.specs.declared.Sizes.{Sizes}
+use Rattle.drawings.specs.declared.Part.{Part}
+use Rattle.drawings.specs.declared.Drawing.{Drawing}
+use Rattle.drawings.specs.Laws.{line_read}
+use Rattle.drawings.specs.Private.{total_marks, Announced, Unannounced, PartOf, Given, TextGives, TextRefused, Small}
+use Rattle.std.specs.Prelude.{Option, None, Some, IsSome, MatchOption, Result, Ok, Err, is_ok, MatchResult}
 
 -- ---- the answer of a text with 192 cells
-
-abbrev result_at : Period → TextAnswer → PeriodResult
-result_at Day a = a.day
-result_at Night a = a.night
 
 module _ (text : List ℕ) {before after : List ℤ} {a : TextAnswer} (q : TextAnswered text before after a) (room : length before ≡ cells_needed ours.entries) where
   abbrev plan : Plan
   plan = plan_in text
 
-  result_at_lem : (p : Period) → (read_text ours text).check ≡ Accepted → result_at p a ≡ result_by p plan (own_marks plan)
-  unfolding answer_of
-  result_at_lem Day ok = ap (λ (x : TextAnswer). x.day) (answer_is text q room ok)
-  result_at_lem Night ok = ap (λ (x : TextAnswer). x.night) (answer_is text q room ok)
+  abbrev reading_check : Check
+  reading_check = (read_text ours text).check
 
-  -- the close count has the total's own mark in it
-  close_at : (p : Period) → (read_text ours text).check ≡ Accepted → (result_at p a).close ≡ close_segments p plan (own_marks plan) + total_marks (cells_of p plan)
-  unfolding result_from
-  close_at p ok = ap (λ (x : PeriodResult). x.close) (result_at_lem p ok ∙ result_is p plan (text_held ours ours_fit text).total)
+  line_is : (c : Check) → reading_check ≡ c → line_read a ≡ (read_text ours text).line
+  unfolding text_answer answer_with answer_of answered line_read
+  line_is (Ok _) ok = ap line_read (answer_is text q room ok) ∙ sym (accepted_line ours text ok)
+  line_is (Err why) e = ap line_read q.answer ∙ rw e refl
 
-  module _ (r : TextLevels) (checked : r.check ≡ a.check) (sizes : Announced text (record { segments = r.segments; entries = r.entries })) where
-    levels_at : (p : Period) → (read_text ours text).check ≡ Accepted → cells_in p r.entries after ≡ cells_of p plan
-    unfolding first_cell
-    levels_at Day ok = period_cells text q room Day ok (sizes.entries ok)
-    levels_at Night ok = period_cells text q room Night ok (sizes.entries ok)
-
-    close_left : (p : Period) → (read_text ours text).check ≡ Accepted → close_in p r ≡ (result_at p a).close - total_marks (cells_in p r.entries after) → close_in p r ≡ close_segments p plan (own_marks plan)
-    close_left p ok e = e ∙ rw (levels_at p ok, close_at p ok) (omega arith)
-
-    pub text_gives : r.line ≡ a.line → r.day ≡ a.day.close - total_marks (cells_in Day r.entries after) → r.night ≡ a.night.close - total_marks (cells_in Night r.entries after) → TextGives text after r
-    text_gives line day night =
-        record { check = checked ∙ both.0; line = line ∙ both.1; given = λ e. given (sym (checked ∙ both.0) ∙ e) }
+  -- what `map_err` gives
+  module _ (place : ℕ) {r : Result (Periods PeriodResult) MergedFault} (m : MatchResult a (λ b. r ≡ Ok b) (λ f. r ≡ Err (record { refusal = f.refusal; text = place; line = f.line }))) where
+    pub text_refused : {g : MergedFault} → r ≡ Err g → TextRefused place text g
+    unfolding check_at line_read
+    text_refused {g} e = go a refl m
       where
-        both : (a.check ≡ (read_text ours text).check) × (a.line ≡ (read_text ours text).line)
-        both = told text q room (read_text ours text).check refl
+        fault_of : Result (Periods PeriodResult) MergedFault → MergedFault
+        fault_of (Ok b) = g
+        fault_of (Err f) = f
 
-        close : (read_text ours text).check ≡ Accepted → (p : Period) → close_in p r ≡ close_segments p plan (own_marks plan)
-        close ok Day = close_left Day ok day
-        close ok Night = close_left Night ok night
+        go : (x : TextAnswer) → a ≡ x → MatchResult x (λ b. r ≡ Ok b) (λ f. r ≡ Err (record { refusal = f.refusal; text = place; line = f.line })) → TextRefused place text g
+        go (Ok b) is same = absurd (false≢true (ap is_ok (sym e ∙ same)))
+        go (Err f) is same =
+            rw (ap fault_of (sym e ∙ same))
+            (record { check = sym (told text q room reading_check refl) ∙ ap check_at is; told = refl; line = sym (ap line_read is) ∙ line_is reading_check refl })
 
-        given : (read_text ours text).check ≡ Accepted → Given plan after r
-        given ok = record { segments = sizes.segments ok; entries = sizes.entries ok; close = close ok; levels = λ p. levels_at p ok ∙ sym (own_cells p plan) }
+    pub text_answered : {both : Periods PeriodResult} → r ≡ Ok both → a ≡ Ok both
+    text_answered {both} e = go a refl m
+      where
+        results_of : Result (Periods PeriodResult) MergedFault → Periods PeriodResult
+        results_of (Ok b) = b
+        results_of (Err f) = both
+
+        go : (x : TextAnswer) → a ≡ x → MatchResult x (λ b. r ≡ Ok b) (λ f. r ≡ Err (record { refusal = f.refusal; text = place; line = f.line })) → a ≡ Ok both
+        go (Ok b) is same = is ∙ ap Ok (ap results_of (sym same ∙ e))
+        go (Err f) is same = absurd (false≢true (ap is_ok (sym same ∙ e)))
+
+  module _ {both : Periods PeriodResult} (e : a ≡ Ok both) where
+    accepted : reading_check ≡ Ok tt
+    unfolding check_at
+    accepted = sym (told text q room reading_check refl) ∙ ap check_at e
+
+    pub sizes_some : (o : Option Sizes) → MatchOption o (Unannounced text) (λ r. Announced text r) → IsSome o
+    sizes_some None w = absurd (w accepted)
+    sizes_some (Some r) w = refl
+
+    results : (p : Period) → in_period p both ≡ result_by p plan (own_marks plan)
+    unfolding answer_of answered in_period
+    results p = go p
+      where
+        either : TextAnswer → Periods PeriodResult
+        either (Ok r) = r
+        either (Err f) = both
+
+        same : both ≡ record { day = result_by Day plan (own_marks plan); night = result_by Night plan (own_marks plan) }
+        same = ap either (sym e ∙ answer_is text q room accepted)
+
+        go : (p : Period) → in_period p both ≡ result_by p plan (own_marks plan)
+        go Day = ap (λ (x : Periods PeriodResult). x.day) same
+        go Night = ap (λ (x : Periods PeriodResult). x.night) same
+
+    -- the close count has the total's own mark in it
+    close_at : (p : Period) → (in_period p both).close ≡ close_segments p plan (own_marks plan) + total_marks (cells_of p plan)
+    unfolding result_from
+    close_at p = ap (λ (x : PeriodResult). x.close) (results p ∙ result_is p plan (text_held ours text).total)
+
+    -- a period's part, from its cells
+    part_levels : (p : Period) {cells : List ℤ} {r : Part} → cells ≡ cells_of p plan → PartOf (in_period p both).close cells r → r.levels.now ≡ map cell_of (levels_of p plan (own_marks plan))
+    part_levels p c w = w.levels ∙ c ∙ sym (own_cells p plan)
+
+    part_close : (p : Period) {cells : List ℤ} {r : Part} → cells ≡ cells_of p plan → PartOf (in_period p both).close cells r → r.close ≡ close_segments p plan (own_marks plan)
+    part_close p c w = w.close ∙ rw (c, close_at p) (omega arith)
+
+    pub text_gives : {sizes : Sizes} → Announced text sizes → {n : ℕ} → n ≡ sizes.entries → {d e : Part} → PartOf both.day.close (take sizes.entries after) d → PartOf both.night.close (take n (drop sizes.entries after)) e
+        → TextGives text (record { segments = sizes.segments; parts = record { day = d; night = e } })
+    unfolding in_period first_cell
+    text_gives {sizes} announced {n} same {d} {e} v w = record { accepted = accepted; given = record { segments = announced.segments accepted; close = close; levels = levels } }
+      where
+        size : sizes.entries ≡ length plan.entries
+        size = announced.entries accepted
+
+        day : take sizes.entries after ≡ cells_of Day plan
+        day = period_cells text q room Day accepted size
+
+        night : take n (drop sizes.entries after) ≡ cells_of Night plan
+        night = rw same (period_cells text q room Night accepted size)
+
+        close : (p : Period) → (in_period p (record { day = d; night = e })).close ≡ close_segments p plan (own_marks plan)
+        close Day = part_close Day day v
+        close Night = part_close Night night w
+
+        levels : (p : Period) → (in_period p (record { day = d; night = e })).levels.now ≡ map cell_of (levels_of p plan (own_marks plan))
+        levels Day = part_levels Day day v
+        levels Night = part_levels Night night w
 
 -- ---- no more than a study may hold
 
-pub record Small (r : TextLevels) : Type 0 where
-  pub segments : r.segments ≤ ours.segments
-  pub entries : r.entries ≤ ours.entries
-  pub day : r.day ≤ ours.segments
-  pub night : r.night ≤ ours.segments
+-- as many levels in each period as entries
+module _ {plan : Plan} {r : Drawing} (g : Given plan r) where
+  entries_in : (p : Period) → length (in_period p r.parts).levels.now ≡ length plan.entries
+  entries_in p = ap length (g.levels p ∙ own_cells p plan) ∙ cells_length p plan
 
-pub text_small : (text : List ℕ) {cells : List ℤ} {r : TextLevels} → TextGives text cells r → r.check ≡ Accepted → Small r
-text_small text w ok =
-    let g = w.given ok in
-    let held = text_held ours ours_fit text in
+  pub day_entries : length r.parts.day.levels.now ≡ length plan.entries
+  unfolding in_period
+  day_entries = entries_in Day
+
+  night_entries : length r.parts.night.levels.now ≡ length plan.entries
+  unfolding in_period
+  night_entries = entries_in Night
+
+pub text_small : (text : List ℕ) {r : Drawing} → TextGives text r → Small r
+unfolding in_period
+text_small text w =
+    let g = w.given in
+    let held = text_held ours text in
     record {
       segments = omega (arith, g.segments, held.count);
-      entries = omega (arith, g.entries, held.total);
+      entries = omega (arith, day_entries g, held.total);
+      nights = night_entries g ∙ sym (day_entries g);
       day = omega (arith, g.close Day, close_most Day (plan_in text) (own_marks (plan_in text)), held.count);
       night = omega (arith, g.close Night, close_most Night (plan_in text) (own_marks (plan_in text)), held.count);
     }

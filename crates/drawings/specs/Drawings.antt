@@ -1,18 +1,17 @@
 -- Two texts and working cells handed over together (02, L5): the first text's refusals, then the second's, then those of the merge, then the request's.
 -- Assumes nothing.
-use Rattle.std.specs.Prelude.{◌≡◌, List, ℕ, ℤ, length}
-use Rattle.figures.specs.declared.Check.{Check}
-use Rattle.figures.specs.declared.Check.TheVariants.{Accepted, Refused}
-use Rattle.figures.specs.Refusal.{check_number, first_refused}
-use Rattle.study.specs.declared.Added.{Added}
-use Rattle.study.specs.Plan.{Plan, plan_of}
-use Rattle.study.specs.Add.{ours}
-use Rattle.request.specs.declared.Answer.{Answer}
+use Rattle.std.specs.Prelude.{◌≡◌, List, ℕ, ℤ, length, Result, Ok, Err}
+use Rattle.figures.specs.declared.Refusal.{Refusal}
+use Rattle.figures.specs.declared.Periods.{Periods}
+use Rattle.figures.specs.Refusal.{check_number, check_of, first_refused, Check}
+use Rattle.study.specs.Plan.{Plan}
+use Rattle.study.specs.Add.{Added, ours}
+use Rattle.request.specs.declared.PeriodResult.{PeriodResult}
 use Rattle.request.specs.Levels.{own_marks, MarksAllowed}
-use Rattle.request.specs.Request.{levels_check, refused_by, answer_by}
+use Rattle.request.specs.Request.{Answer, levels_check, answer_by}
 use Rattle.text.specs.Text.{read_text}
 use Rattle.text.specs.Answer.{cells_with}
-use Rattle.drawings.specs.declared.MergedAnswer.{MergedAnswer}
+use Rattle.drawings.specs.declared.MergedFault.{MergedFault}
 use Rattle.merging.specs.Merge.{merged}
 
 -- the merge of both texts' studies, and what its study holds; where a text is refused, neither is looked at
@@ -20,16 +19,43 @@ abbrev pub merged_of : List ℕ → List ℕ → Added
 merged_of first second = merged ours (read_text ours first).study (read_text ours second).study
 
 abbrev pub merged_plan_in : List ℕ → List ℕ → Plan
-merged_plan_in first second = plan_of (merged_of first second).study
+merged_plan_in first second = (merged_of first second).study
 
--- an answer with the text that is at fault, 1 or 2, and its line; both 0 where none is
+-- ---- the answer
+
+-- both periods' results, or a refusal with the text at fault and its line
+abbrev pub MergedAnswer : Type 0
+MergedAnswer = Result (Periods PeriodResult) MergedFault
+
+-- a refusal with the text that is at fault, 1 or 2, and its line; both 0 where none is
+abbrev pub refused_told : ℕ → ℕ → Refusal → MergedAnswer
+refused_told text line why = Err (record { refusal = why; text = text; line = line })
+
+-- an answer with the text and the line that its refusal tells
 abbrev pub told_at : ℕ → ℕ → Answer → MergedAnswer
-told_at text line a = record { check = a.check; text = text; line = line; day = a.day; night = a.night }
+told_at text line (Ok both) = Ok both
+told_at text line (Err why) = refused_told text line why
+
+-- the answer without them, and each of them: 0 without a refusal
+unfoldable pub answer_told : MergedAnswer → Answer
+answer_told (Ok both) = Ok both
+answer_told (Err f) = Err f.refusal
+
+unfoldable pub text_told : MergedAnswer → ℕ
+text_told (Ok both) = 0
+text_told (Err f) = f.text
+
+unfoldable pub line_told : MergedAnswer → ℕ
+line_told (Ok both) = 0
+line_told (Err f) = f.line
+
+abbrev pub check_told : MergedAnswer → Check
+check_told r = check_of (answer_told r)
 
 -- a refusal ends the request; else what comes after it
 abbrev pub told_unless : Check → ℕ → ℕ → MergedAnswer → MergedAnswer
-told_unless Accepted text line rest = rest
-told_unless (Refused why) text line rest = told_at text line (refused_by why)
+told_unless (Ok _) text line rest = rest
+told_unless (Err why) text line rest = refused_told text line why
 
 unfoldable pub merged_answer : List ℕ → List ℕ → ℕ → MergedAnswer
 merged_answer first second cells =

@@ -1,30 +1,28 @@
 // From the texts of two drawings of one window to the levels of both as one study (document 02, L5).
 #![tactic(auto)]
 
-ghost use Rattle.std.specs.Prelude.{◌≡◌, ◌++◌, ◌+◌, ◌-◌, ◌≤◌, length};
+ghost use Rattle.std.specs.Prelude.{◌≡◌, ◌+◌, ◌-◌, ◌≤◌, length, sum, MatchOption, MatchResult};
 ghost use Rattle.figures.specs.Refusal.{check_number};
 ghost use Rattle.study.specs.Add.{ours};
-ghost use Rattle.request.specs.Request.{cells_needed, refused_by};
-ghost use Rattle.lines.specs.Contents.{sum_of_counts};
-ghost use Rattle.drawings.specs.Drawings.{told_at, merged_answer_number, MergedAnswered};
-ghost use Rattle.drawings.specs.Private.{most_close, total_marks, Announced, TextGives, PeriodLaid, Lent, Together};
+ghost use Rattle.request.specs.Request.{cells_needed};
+ghost use Rattle.drawings.specs.Drawings.{check_told, merged_answer_number, MergedAnswered};
+ghost use Rattle.drawings.specs.Private.{most_close, total_marks, Announced, Unannounced, PartOf, TextGives, TextRefused, PeriodLaid, Small, Together};
 
-use figures::{Check, Period, Refusal};
-use lines::contents::{Contents, contents_of};
-use lines::line_at;
+use figures::{Period, Periods, Refusal};
+use lines::contents::contents_of;
+use lines::split_line;
 use merging::limits_check;
-use request::{Answer, MOST_CELLS, PeriodResult, is_met, refusal_answer, write_levels};
+use request::{MOST_CELLS, PeriodResult, is_met, write_levels};
 use study::{MOST_ENTRIES, MOST_SEGMENTS};
 use text::text_levels;
 
-// What two texts and working cells give: the refusal with the text and its line, both 0 where no text is at fault, or both periods' results.
+// Why two texts are turned back, with the text at fault, 1 or 2, and its line; both 0 where no text is at fault. The C interface tells
+// them by these numbers.
 #[derive(Clone, Copy)]
-pub struct MergedAnswer {
-    pub check: Check,
+pub struct MergedFault {
+    pub refusal: Refusal,
     pub text: u32,
     pub line: usize,
-    pub day: PeriodResult,
-    pub night: PeriodResult,
 }
 
 // How many segments and entries a text has.
@@ -34,193 +32,150 @@ struct Sizes {
     entries: usize,
 }
 
-// What a text gives beside its levels: its refusal with the line, or its sizes and, for each period, how many segments with trains are marked as close.
+// A period of a text: its entries' levels as their cells hold them, and how many segments with trains are marked as close.
 #[derive(Clone, Copy)]
-struct TextLevels {
-    check: Check,
-    line: usize,
+struct Part<'a> {
+    levels: &'a [i32],
+    close: u32,
+}
+
+// What a text gives: how many segments it has, and both periods, each with the levels of all its entries.
+#[derive(Clone, Copy)]
+struct Drawing<'a> {
     segments: usize,
-    entries: usize,
-    day: u32,
-    night: u32,
-}
-
-// An answer with the text at fault and its line.
-fn told_at(answer: Answer, text: u32, line: usize) -> MergedAnswer
-    ensures { result ≡ told_at text line answer }
-{
-    let check = answer.check;
-    let day = answer.day;
-    let night = answer.night;
-    MergedAnswer {
-        check,
-        text,
-        line,
-        day,
-        night,
-    }
-}
-
-fn refused_at(refusal: Refusal, text: u32, line: usize) -> MergedAnswer
-    ensures { result ≡ told_at text line (refused_by refusal) }
-{
-    told_at(refusal_answer(refusal), text, line)
+    parts: Periods<Part<'a>>,
 }
 
 // The entry counts, added.
 fn sum_of(counts: &[usize]) -> usize
-    requires { sum_of_counts counts.now ≤ ours.entries }
-    ensures { result ≡ sum_of_counts counts.now }
+    requires { sum counts.now ≤ ours.entries }
+    ensures { result ≡ sum counts.now }
 {
-    let mut sum: usize = 0;
-    let mut i: usize = 0;
-    while i < counts.len() {
-        sum += counts[i];
-        i += 1;
-    }
-    sum
+    counts.iter().sum()
 }
 
-// The sizes that a text's first line announces, none where it is refused.
-fn sizes_of(text: &[u8]) -> Sizes
-    ensures { Announced text.now result }
+// The sizes that a text's first line announces, where it is not refused.
+fn sizes_of(text: &[u8]) -> Option<Sizes>
+    ensures { MatchOption result (Unannounced text.now) (λ r. Announced text.now r) }
 {
-    let mut counts = [0usize; MOST_SEGMENTS];
-    let line = line_at(text, 0);
-    match contents_of(line, MOST_ENTRIES, &mut counts) {
-        Contents::Refused(_) => Sizes {
-            segments: 0,
-            entries: 0,
-        },
-        Contents::Counts(segments) => Sizes {
-            segments,
-            entries: sum_of(&counts[..segments]),
-        },
-    }
+    let (line, _) = split_line(text)?;
+    let Ok(counts) = contents_of::<MOST_SEGMENTS>(line, MOST_ENTRIES) else {
+        return None;
+    };
+    Some(Sizes {
+        segments: counts.len(),
+        entries: sum_of(counts.as_slice()),
+    })
 }
 
 // A period's close count without the total's own mark, which is a function of the levels.
+#[tactic(auto, using(request::proofs::Results::byte_is))]
 fn marked_segments(close: u32, levels: &[i32]) -> u32
     ensures { result ≡ close - total_marks levels.now }
 {
     if close == 0 {
         return 0;
     }
-    let total = energy::total_of(levels);
-    if total.close { close - 1 } else { close }
+    close - u32::from(energy::total_of(levels).close)
 }
 
-// A text's levels in the first of 192 cells, those by day and then those by night, and what else the merged answer needs of it.
-fn levels_in(text: &[u8], cells: &mut [i32]) -> TextLevels
-    requires { length cells.old ≡ cells_needed ours.entries }
-    ensures { TextGives text.now cells.new result }
+// A period of a text from its levels and its close count in the text's answer.
+fn part_of(close: u32, levels: &[i32]) -> Part<'_>
+    ensures { PartOf close levels.now result }
 {
-    let answer = text_levels(text, cells);
-    let sizes = sizes_of(text);
-    let entries = sizes.entries;
-    let end = entries + entries;
-    let check = answer.check;
-    let day = answer.day;
-    let night = answer.night;
-    TextLevels {
-        check,
-        line: answer.line,
-        segments: sizes.segments,
-        entries,
-        day: marked_segments(day.close, &cells[..entries]),
-        night: marked_segments(night.close, &cells[entries..end]),
+    Part {
+        levels,
+        close: marked_segments(close, levels),
     }
 }
 
-// A period of both texts: its levels in the cells from a place on, and its result.
+// What a text gives, its levels in the cells; or why it is turned back, as the text at its place.
+fn drawing_in<'a>(place: u32, text: &[u8], cells: &'a mut [i32]) -> Result<Drawing<'a>, MergedFault>
+    requires { length cells.old ≡ cells_needed ours.entries }
+    ensures { MatchResult result (λ r. TextGives text.now r) (λ f. TextRefused place text.now f) }
+{
+    let answer = text_levels(text, cells).map_err(|fault| MergedFault {
+        refusal: fault.refusal,
+        text: place,
+        line: fault.line,
+    })?;
+    let sizes = sizes_of(text).unwrap();
+    let end = sizes.entries + sizes.entries;
+    Ok(Drawing {
+        segments: sizes.segments,
+        parts: Periods {
+            day: part_of(answer.day.close, &cells[..sizes.entries]),
+            night: part_of(answer.night.close, &cells[sizes.entries..end]),
+        },
+    })
+}
+
+// A period of both texts: its levels in the cells from a place on, the first text's before the second's, and its result.
 fn period_in(
     period: Period,
-    own: &[i32],
-    others: &[i32],
-    close: u32,
+    one: Part<'_>,
+    two: Part<'_>,
     cells: &mut [i32],
     at: usize,
 ) -> PeriodResult
-    requires { (at + (length own.now + length others.now) ≤ length cells.old) × (close ≤ most_close) }
-    ensures { PeriodLaid period (own.now ++ others.now) close at cells.old cells.new result }
+    requires { (at + (length one.levels.now + length two.levels.now) ≤ length cells.old) × (one.close + two.close ≤ most_close) }
+    ensures { PeriodLaid period one.entry two.entry at cells.old cells.new result }
 {
-    write_levels(own, cells, at);
-    let next = at + own.len();
-    write_levels(others, cells, next);
-    let end = next + others.len();
+    write_levels(one.levels, cells, at);
+    let next = at + one.levels.len();
+    write_levels(two.levels, cells, next);
+    let end = next + two.levels.len();
     let total = energy::total_of(&cells[at..end]);
-    let level = total.level;
     PeriodResult {
-        level,
-        close: if total.close { close + 1 } else { close },
-        met: is_met(period, level),
+        level: total.level,
+        close: one.close + two.close + u32::from(total.close),
+        met: is_met(period, total.level),
     }
 }
 
-// Both periods of both texts, the levels in the first cells: by day and then by night, the first text's before the second's.
+// Both periods of both texts, the levels in the first cells, those by day and then those by night; or why both together are turned back.
 fn together(
-    one: TextLevels,
-    two: TextLevels,
-    own: &[i32],
-    others: &[i32],
+    one: &Drawing<'_>,
+    two: &Drawing<'_>,
     cells: &mut [i32],
-) -> Answer
-    requires { Lent one two own.now others.now cells.old }
-    ensures { Together one two own.now others.now cells.old cells.new result }
+) -> Result<Periods<PeriodResult>, Refusal>
+    requires { Small one.now × Small two.now }
+    ensures { Together one.now two.now cells.old cells.new result }
 {
-    let first = one.entries;
-    let second = two.entries;
-    let by_day = one.day + two.day;
-    let day = period_in(
-        Period::Day,
-        &own[..first],
-        &others[..second],
-        by_day,
-        cells,
-        0,
-    );
-    let first_end = first + first;
-    let second_end = second + second;
-    let by_night = one.night + two.night;
-    let night = period_in(
-        Period::Night,
-        &own[first..first_end],
-        &others[second..second_end],
-        by_night,
-        cells,
-        first + second,
-    );
-    Answer {
-        check: Check::Accepted,
-        day,
-        night,
+    let entries = one.parts.day.levels.len() + two.parts.day.levels.len();
+    limits_check(one.segments + two.segments, entries)?;
+    if cells.len() < entries + entries {
+        return Err(Refusal::FewCells);
     }
+    Ok(Periods {
+        day: period_in(Period::Day, one.parts.day, two.parts.day, cells, 0),
+        night: period_in(
+            Period::Night,
+            one.parts.night,
+            two.parts.night,
+            cells,
+            entries,
+        ),
+    })
 }
 
 // From two texts to the levels of both together. On a refusal the cells are as they were.
-pub fn merged_levels(first: &[u8], second: &[u8], cells: &mut [i32]) -> MergedAnswer
+pub fn merged_levels(
+    first: &[u8],
+    second: &[u8],
+    cells: &mut [i32],
+) -> Result<Periods<PeriodResult>, MergedFault>
     ensures answered { MergedAnswered first.now second.now cells.old cells.new result }
-    ensures number { check_number result.check ≡ merged_answer_number first.now second.now (length cells.old) }
+    ensures number { check_number (check_told result) ≡ merged_answer_number first.now second.now (length cells.old) }
 {
+    // Arrays of fixed size, since there is no heap; what is handed on of them are the slices that a text fills.
     let mut own = [0i32; MOST_CELLS];
-    let one = levels_in(first, &mut own);
-    let checked_one = one.check;
-    if let Check::Refused(refusal) = checked_one {
-        return refused_at(refusal, 1, one.line);
-    }
+    let one = drawing_in(1, first, &mut own)?;
     let mut others = [0i32; MOST_CELLS];
-    let two = levels_in(second, &mut others);
-    let checked_two = two.check;
-    if let Check::Refused(refusal) = checked_two {
-        return refused_at(refusal, 2, two.line);
-    }
-    let entries = one.entries + two.entries;
-    let checked_both = limits_check(one.segments + two.segments, entries);
-    if let Check::Refused(refusal) = checked_both {
-        return refused_at(refusal, 0, 0);
-    }
-    if cells.len() < entries + entries {
-        return refused_at(Refusal::FewCells, 0, 0);
-    }
-    told_at(together(one, two, &own, &others, cells), 0, 0)
+    let two = drawing_in(2, second, &mut others)?;
+    together(&one, &two, cells).map_err(|refusal| MergedFault {
+        refusal,
+        text: 0,
+        line: 0,
+    })
 }

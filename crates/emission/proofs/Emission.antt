@@ -19,11 +19,10 @@ use Rattle.figures.specs.declared.Train.{Train}
 use Rattle.figures.specs.declared.Period.{Period}
 use Rattle.figures.specs.declared.Period.TheVariants.{Day, Night}
 use Rattle.figures.specs.declared.Refusal.{Refusal}
-use Rattle.figures.specs.declared.Check.TheVariants.{Accepted, Refused}
-use Rattle.figures.specs.Refusal.{is_accepted}
 use Rattle.figures.specs.Rules.{train_check}
 use Rattle.figures.specs.Bounds.{Below}
-use Rattle.figures.specs.Private.{Signed, Exactly, TrainRanged}
+use Rattle.figures.specs.Private.{Exactly}
+use Rattle.figures.proofs.Ranged.{Signed, TrainRanged}
 use Rattle.figures.proofs.Signs.{read, below_more, natural_below, Sum, summand, added, summed, exactly_read}
 use Rattle.figures.proofs.Lies.{lies_add, lies_within, lies_micro}
 use Rattle.emission.specs.declared.TrainBreakdown.{TrainBreakdown}
@@ -38,6 +37,7 @@ use Rattle.emission.proofs.RollingFigures.{rolling_lies}
 use Rattle.emission.proofs.SpeedStep.{speed_lies, speed_rises}
 use Rattle.emission.proofs.VehiclesStep.{vehicles_lies}
 use Rattle.emission.proofs.TrainsStep.{trains_lies}
+use Rattle.std.specs.Prelude.{Ok, Err}
 
 -- ---- the parts
 
@@ -60,18 +60,18 @@ parts_are t a b c d n =
     }
 
 module _ (t : Train) where
-  pub accepted_breakdown : train_check t ≡ Accepted → train_parts_of t ≡ train_breakdown_of t
-  unfolding train_breakdown_of is_accepted
+  pub accepted_breakdown : train_check t ≡ Ok tt → train_parts_of t ≡ train_breakdown_of t
+  unfolding train_breakdown_of
   accepted_breakdown e = sym (rw e refl)
 
-  pub accepted_parts : {b : TrainBreakdown} → train_check t ≡ Accepted → TrainParted (train_parts_of t) b → TrainParted (train_breakdown_of t) b
+  pub accepted_parts : {b : TrainBreakdown} → train_check t ≡ Ok tt → TrainParted (train_parts_of t) b → TrainParted (train_breakdown_of t) b
   accepted_parts {b} e p = subst (λ (v : TrainBreakdown). TrainParted v b) (accepted_breakdown e) p
 
-  pub refused_breakdown : {k : Refusal} → train_check t ≡ Refused k → no_train_parts ≡ train_breakdown_of t
-  unfolding train_breakdown_of is_accepted
+  pub refused_breakdown : {k : Refusal} → train_check t ≡ Err k → no_train_parts ≡ train_breakdown_of t
+  unfolding train_breakdown_of
   refused_breakdown e = sym (rw e refl)
 
-  pub refused_parts : {k : Refusal} → train_check t ≡ Refused k → TrainParted (train_breakdown_of t) (made (pos 0) (pos 0) (pos 0) Silent Silent)
+  pub refused_parts : {k : Refusal} → train_check t ≡ Err k → TrainParted (train_breakdown_of t) (made (pos 0) (pos 0) (pos 0) Silent Silent)
   unfolding no_train_parts SmallLevel
   refused_parts e =
       let zero : Below 2000 (pos 0) = natural_below (lit< tt) in
@@ -150,19 +150,19 @@ unfolding trains_part train_parts_of
 trains_part_lem Day t = refl
 trains_part_lem Night t = refl
 
-emission_by : (p : Period) (t : Train) → train_check t ≡ Accepted → raised (nearest (speed_fence t) +ℤ (nearest (vehicles_fence t) +ℤ rolling_tenths t)) (trains_level p t) ≡ emission_of p t
+emission_by : (p : Period) (t : Train) → train_check t ≡ Ok tt → raised (nearest (speed_fence t) +ℤ (nearest (vehicles_fence t) +ℤ rolling_tenths t)) (trains_level p t) ≡ emission_of p t
 unfolding emission_of train_parts_of
 emission_by p t e = sym (rw (sym (accepted_breakdown t e)) (ap (raised (nearest (speed_fence t) +ℤ (nearest (vehicles_fence t) +ℤ rolling_tenths t))) (trains_part_lem p t)))
 
-pub emits_figure : (p : Period) (t : Train) → train_check t ≡ Accepted → sounds p t ≡ true → emission_of p t ≡ Figure (train_tenths p t)
+pub emits_figure : (p : Period) (t : Train) → train_check t ≡ Ok tt → sounds p t ≡ true → emission_of p t ≡ Figure (train_tenths p t)
 unfolding train_tenths raised trains_level
 emits_figure p t e s = sym (emission_by p t e) ∙ rw s refl
 
-pub emits_none : (p : Period) (t : Train) → train_check t ≡ Accepted → sounds p t ≡ false → emission_of p t ≡ Silent
+pub emits_none : (p : Period) (t : Train) → train_check t ≡ Ok tt → sounds p t ≡ false → emission_of p t ≡ Silent
 unfolding raised trains_level
 emits_none p t e s = sym (emission_by p t e) ∙ rw s refl
 
-pub refused_silent : (p : Period) (t : Train) {k : Refusal} → train_check t ≡ Refused k → emission_of p t ≡ Silent
+pub refused_silent : (p : Period) (t : Train) {k : Refusal} → train_check t ≡ Err k → emission_of p t ≡ Silent
 unfolding emission_of no_train_parts raised trains_part
 refused_silent p t e = rw (sym (refused_breakdown t e)) (silent p)
   where

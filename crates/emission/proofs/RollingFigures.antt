@@ -14,7 +14,8 @@ use Rattle.decibel.proofs.Table.{at_every}
 use Rattle.figures.specs.declared.Train.{Train}
 use Rattle.figures.specs.Rules.{most_row}
 use Rattle.figures.specs.Bounds.{Below}
-use Rattle.figures.specs.Private.{Signed, Exactly, TrainRanged}
+use Rattle.figures.specs.Private.{Exactly}
+use Rattle.figures.proofs.Ranged.{Signed, TrainRanged}
 use Rattle.emission.specs.Rolling.{rollings, rolling_tenths}
 
 -- one test of the whole table

@@ -18,7 +18,8 @@ use Rattle.decibel.proofs.Exact.{fence_is, fence_rises}
 use Rattle.decibel.proofs.Fences.{fence_square, fence-add}
 use Rattle.figures.specs.declared.Train.{Train}
 use Rattle.figures.specs.Rules.{most_speed}
-use Rattle.figures.specs.Private.{Signed, Exactly, TrainRanged}
+use Rattle.figures.specs.Private.{Exactly}
+use Rattle.figures.proofs.Ranged.{Signed, TrainRanged}
 use Rattle.figures.proofs.Signs.{read, below_more, natural_below, summand, summed}
 use Rattle.figures.proofs.Tenths.{tenth_below, tenths_of_lem}
 use Rattle.figures.proofs.Lies.{lies_fence}

@@ -21,7 +21,8 @@ use Rattle.figures.specs.declared.Train.{Train}
 use Rattle.figures.specs.declared.Period.{Period}
 use Rattle.figures.specs.declared.Period.TheVariants.{Day, Night}
 use Rattle.figures.specs.Rules.{most_trains}
-use Rattle.figures.specs.Private.{Signed, Exactly, TrainRanged}
+use Rattle.figures.specs.Private.{Exactly}
+use Rattle.figures.proofs.Ranged.{Signed, TrainRanged}
 use Rattle.figures.proofs.Signs.{read, below_more, below_back, natural_below, less, less_fits, exactly_read}
 use Rattle.figures.proofs.Tenths.{tenth_below, tenths_of_lem}
 use Rattle.figures.proofs.Lies.{lies_within, lies_less, lies_fence, fence_less}

@@ -11,7 +11,8 @@ use Rattle.decibel.specs.Lookup.{ten_log, fence_at, lowest, highest, tenths_at, 
 use Rattle.decibel.specs.Round.{nearest, IsFence}
 use Rattle.decibel.proofs.Exact.{fence_is}
 use Rattle.figures.specs.declared.Train.{Train}
-use Rattle.figures.specs.Private.{Signed, Exactly, TrainRanged}
+use Rattle.figures.specs.Private.{Exactly}
+use Rattle.figures.proofs.Ranged.{Signed, TrainRanged}
 use Rattle.figures.proofs.Signs.{read, exactly_read, exactly_by}
 use Rattle.figures.proofs.Tenths.{tenths_of_lem}
 use Rattle.figures.proofs.Lies.{lies_fence}

@@ -1,13 +1,12 @@
 -- What a train adds to its entry's level: its parts, and their sum in each period (01, "The steps" and "The bare level").
 -- Assumes nothing.
-use Rattle.std.specs.Prelude.{cond, ℤ, pos, ◌+ℤ◌}
+use Rattle.std.specs.Prelude.{cond, ℤ, pos, ◌+ℤ◌, is_ok}
 use Rattle.decibel.specs.Round.{micro, nearest}
 use Rattle.decibel.specs.declared.Level.{Level}
 use Rattle.decibel.specs.declared.Level.TheVariants.{Silent, Figure}
 use Rattle.figures.specs.declared.Train.{Train}
 use Rattle.figures.specs.declared.Period.{Period}
 use Rattle.figures.specs.declared.Period.TheVariants.{Day, Night}
-use Rattle.figures.specs.Refusal.{is_accepted}
 use Rattle.figures.specs.Rules.{train_check}
 use Rattle.emission.specs.declared.TrainBreakdown.{TrainBreakdown}
 use Rattle.emission.specs.Rolling.{rolling_tenths}
@@ -36,7 +35,7 @@ no_train_parts = record { speed = pos 0; vehicles = pos 0; rolling = pos 0; day 
 
 -- for every train: nothing of a refused one
 unfoldable pub train_breakdown_of : Train → TrainBreakdown
-train_breakdown_of t = cond (is_accepted (train_check t)) (train_parts_of t) no_train_parts
+train_breakdown_of t = cond (is_ok (train_check t)) (train_parts_of t) no_train_parts
 
 -- ---- the parts added
 

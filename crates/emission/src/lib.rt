@@ -1,20 +1,21 @@
 // What a train adds to the level of its entry: speed, vehicles, its row's figure, and its trains in each period.
 #![tactic(auto)]
 
+mod kept;
 mod rolling;
 mod speed;
 mod trains;
 mod vehicles;
 
 ghost use Rattle.figures.specs.Bounds.{Below};
-ghost use Rattle.figures.specs.Private.{TrainRanged};
 ghost use Rattle.figures.specs.declared.Period.TheVariants.{Day, Night};
 ghost use Rattle.emission.specs.Emission.{raised, train_parts_of, train_breakdown_of, emission_of};
 ghost use Rattle.emission.specs.Results.{SmallLevel, TrainParted, Emits};
 
 use decibel::Level;
 use figures::ranges::train_check;
-use figures::{Check, Period, Train};
+use figures::{Period, Periods, Train};
+use kept::Kept;
 
 // What each step of a train adds, in tenths: the trains step by period, silent where it does not run.
 #[derive(Clone, Copy)]
@@ -26,24 +27,16 @@ pub struct TrainBreakdown {
     pub night: Level,
 }
 
-// What a train emits by day and by night.
-#[derive(Clone, Copy)]
-pub struct Emissions {
-    pub day: Level,
-    pub night: Level,
-}
-
 // The parts of an accepted train.
-fn train_parts_of(train: Train) -> TrainBreakdown
-    requires { TrainRanged train }
-    ensures { TrainParted (train_parts_of train) result }
+fn train_parts_of(kept: Kept) -> TrainBreakdown
+    ensures { TrainParted (train_parts_of kept.train) result }
 {
     TrainBreakdown {
-        speed: speed::speed_step(train),
-        vehicles: vehicles::vehicles_step(train),
-        rolling: rolling::rolling_figure(train),
-        day: trains::trains_level(train, Period::Day),
-        night: trains::trains_level(train, Period::Night),
+        speed: speed::speed_step(kept),
+        vehicles: vehicles::vehicles_step(kept),
+        rolling: rolling::rolling_figure(kept),
+        day: trains::trains_level(kept, Period::Day),
+        night: trains::trains_level(kept, Period::Night),
     }
 }
 
@@ -52,8 +45,8 @@ pub fn train_breakdown_of(train: Train) -> TrainBreakdown
     ensures { TrainParted (train_breakdown_of train) result }
 {
     match train_check(train) {
-        Check::Accepted => train_parts_of(train),
-        Check::Refused(_) => TrainBreakdown {
+        Ok(()) => train_parts_of(Kept { train }),
+        Err(_) => TrainBreakdown {
             speed: 0,
             vehicles: 0,
             rolling: 0,
@@ -75,15 +68,13 @@ fn raise(base: i32, level: Level) -> Level
 }
 
 // The sum of a train's parts in each period: silent where it does not run, or is refused.
-pub fn emissions_of(train: Train) -> Emissions
+pub fn emissions_of(train: Train) -> Periods<Level>
     ensures { Emits (emission_of Day train) result.day × Emits (emission_of Night train) result.night }
 {
     let parts = train_breakdown_of(train);
     let base = parts.speed + (parts.vehicles + parts.rolling);
-    let day = parts.day;
-    let night = parts.night;
-    Emissions {
-        day: raise(base, day),
-        night: raise(base, night),
+    Periods {
+        day: raise(base, parts.day),
+        night: raise(base, parts.night),
     }
 }

@@ -1,9 +1,10 @@
 // Table A1.1's rolling figures.
 ghost use Rattle.std.specs.Prelude.{◌≡◌, ◌-◌, ◌≤◌, pos, get_or};
-ghost use Rattle.figures.specs.Private.{Exactly, TrainRanged};
+ghost use Rattle.figures.specs.Private.{Exactly};
 ghost use Rattle.emission.specs.Rolling.{rollings, rolling_tenths};
 
-use figures::{Train, natural};
+use crate::kept::Kept;
+use figures::natural;
 
 // In tenths, in the table's order.
 const ROLLINGS: [u8; 34] = [
@@ -16,12 +17,11 @@ fn rolling_at(row: u64) -> i32
     requires { (1 ≤ row) × (row ≤ 34) }
     ensures { result ≡ pos (get_or rollings (row - 1) 0) }
 {
-    ROLLINGS[(row - 1) as usize] as i32
+    i32::from(ROLLINGS[(row - 1) as usize])
 }
 
-pub(crate) fn rolling_figure(train: Train) -> i32
-    requires { TrainRanged train }
-    ensures { Exactly (rolling_tenths train) result }
+pub(crate) fn rolling_figure(kept: Kept) -> i32
+    ensures { Exactly (rolling_tenths kept.train) result }
 {
-    rolling_at(natural(train.row))
+    rolling_at(natural(kept.train.row))
 }

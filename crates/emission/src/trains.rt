@@ -1,10 +1,11 @@
 // The trains step of a period.
 ghost use Rattle.std.specs.Prelude.{◌≡◌, ◌<◌, pos};
 ghost use Rattle.decibel.specs.Round.{nearest};
-ghost use Rattle.figures.specs.Private.{Exactly, TrainRanged};
+ghost use Rattle.figures.specs.Private.{Exactly};
 ghost use Rattle.emission.specs.Trains.{trains_in, hours_tenths, trains_fence, trains_level};
 ghost use Rattle.emission.specs.Private.{Runs};
 
+use crate::kept::Kept;
 use decibel::Level;
 use figures::{Period, Train, natural};
 
@@ -28,20 +29,19 @@ fn hours(period: Period) -> i32
     }
 }
 
-fn trains_step(train: Train, period: Period) -> i32
-    requires { TrainRanged train × (0 < trains_in period train) }
-    ensures { Exactly (nearest (trains_fence period train)) result }
+fn trains_step(kept: Kept, period: Period) -> i32
+    requires { 0 < trains_in period kept.train }
+    ensures { Exactly (nearest (trains_fence period kept.train)) result }
 {
-    decibel::count_log(trains_in(train, period)) - hours(period)
+    decibel::count_log(trains_in(kept.train, period)) - hours(period)
 }
 
 // The step, silent where no train runs.
-pub(crate) fn trains_level(train: Train, period: Period) -> Level
-    requires { TrainRanged train }
-    ensures { Runs (trains_level period train) result }
+pub(crate) fn trains_level(kept: Kept, period: Period) -> Level
+    ensures { Runs (trains_level period kept.train) result }
 {
-    if trains_in(train, period) == 0 {
+    if trains_in(kept.train, period) == 0 {
         return Level::Silent;
     }
-    Level::Figure(trains_step(train, period))
+    Level::Figure(trains_step(kept, period))
 }

@@ -1,13 +1,13 @@
 // The vehicles step.
 ghost use Rattle.decibel.specs.Round.{nearest};
-ghost use Rattle.figures.specs.Private.{Exactly, TrainRanged};
+ghost use Rattle.figures.specs.Private.{Exactly};
 ghost use Rattle.emission.specs.Vehicles.{vehicles_fence};
 
-use figures::{Train, natural};
+use crate::kept::Kept;
+use figures::natural;
 
-pub(crate) fn vehicles_step(train: Train) -> i32
-    requires { TrainRanged train }
-    ensures { Exactly (nearest (vehicles_fence train)) result }
+pub(crate) fn vehicles_step(kept: Kept) -> i32
+    ensures { Exactly (nearest (vehicles_fence kept.train)) result }
 {
-    decibel::count_log(natural(train.vehicles))
+    decibel::count_log(natural(kept.train.vehicles))
 }

@@ -1,6 +1,6 @@
--- The rule of each list of the crate `energy_tables`, by one test that antt computes over the whole of it, and what is read by it.
+-- The rule of each array of the crate `energy_tables`, by one test that antt computes over the whole of its list, and what is read by it.
 -- Assumes nothing.
-use mathlib.Core.Path.{◌≡◌, refl, sym, ap, ap₂, ◌∙◌}
+use mathlib.Core.Path.{◌≡◌, refl, sym, ap, ap₂, ◌∙◌, subst}
 use mathlib.Core.Bool.{Bool}
 use Prim.Native.Nat.{ℕ, zero, suc, ◌+◌, ◌*◌, ◌-◌, ◌/◌, ◌%◌, ◌^◌, ◌≤◌, ◌<◌, zero-le}
 use native.Mathlib.Nat.{le_trans, lt_of_lt_of_le, lt_of_le_of_lt, lt_irrefl, mod-lt, zero-lt-suc, pow-le-pow_left, mul-le-mul_right}
@@ -12,16 +12,19 @@ use lib.Signed.{◌≤ℤ◌, ◌<ℤ◌}
 use lib.ListN.{get_or}
 use Rattle.decibel.specs.Greatest.{greatest}
 use Rattle.decibel.specs.Private.{Sought, Between}
+use Rattle.energy_tables.specs.declared.TheConstants.{WEIGHT, POWER, MARK_BEGIN, MARK_END}
+use Rattle.energy_tables.proofs.Arrays.{weight_is, power_is, mark_begin_is, mark_end_is}
+use Rattle.std.specs.List.Sorted.{IsNonDecreasing}
+use Rattle.std.proofs.lemmas.List.Sorted.{IsNonDecreasingBy-from_default}
 use Rattle.energy_tables.specs.Lists.{weight_list, power_list, mark_begin_list, mark_end_list}
 use Rattle.decibel.proofs.Tests.{both, Values}
 use Rattle.decibel.proofs.Table.{both_left, both_right, values_tested}
-use Rattle.decibel.proofs.Powers.{ten_pos}
 use Rattle.decibel.proofs.Greatest.{greatest_is}
 use Rattle.energy.specs.Mark.{weight_of, raised_unit, begin_of, end_of, passed_of}
 use Rattle.energy.specs.Private.{Bounded, height_at, weight_at}
 use Rattle.energy.proofs.Weighing.{unit, weight_most, weight_cut, weight_none}
 use Rattle.energy.proofs.Cells.{weight_silent, weight_heard}
-use Rattle.energy.proofs.Thresholds.{begin_last, passed_is}
+use Rattle.energy.proofs.Thresholds.{begin_rises, passed_is}
 
 -- ---- tests that are computed over a whole table
 
@@ -75,66 +78,55 @@ module _ (g : ℕ → ℕ) (f : ℕ) (none : g 0 ≡ 0) (rule : (k : ℕ) → g 
   mark_tested zero x t = eqb→eq x 0 t ∙ sym none
   mark_tested (suc k) x t = tie_tested f k x t ∙ sym (rule k)
 
--- ---- the rule of each list of the crate `energy_tables`, by one test that is computed over the whole of it
+-- ---- the rule of each array of the crate `energy_tables`, by one test that is computed over the whole of its list
 
-pub weight_rule : Values (λ i x. x ≡ weight_of i) 100 weight_list
+pub weight_rule : Values (λ i x. x ≡ weight_of i) 100 WEIGHT
 unfolding weight_list weight_test
-weight_rule = values_tested weight_test weight_tested refl tt
+weight_rule = subst (Values (λ i x. x ≡ weight_of i) 100) (sym weight_is) (values_tested weight_test weight_tested refl tt)
 
-pub power_rule : Values (λ i x. x ≡ 10 ^ i) 16 power_list
+pub power_rule : Values (λ i x. x ≡ 10 ^ i) 16 POWER
 unfolding power_list
-power_rule = values_tested (λ i x. eqb x (10 ^ i)) (λ i x t. eqb→eq x (10 ^ i) t) refl tt
+power_rule = subst (Values (λ i x. x ≡ 10 ^ i) 16) (sym power_is) (values_tested (λ i x. eqb x (10 ^ i)) (λ i x t. eqb→eq x (10 ^ i) t) refl tt)
 
-pub begin_rule : Values (λ i x. x ≡ begin_of i) 200 mark_begin_list
+pub begin_rule : Values (λ i x. x ≡ begin_of i) 200 MARK_BEGIN
 unfolding mark_begin_list mark_test tie_test begin_of
-begin_rule = values_tested (mark_test 1011230) (mark_tested begin_of 1011230 refl (λ k. refl)) refl tt
+begin_rule = subst (Values (λ i x. x ≡ begin_of i) 200) (sym mark_begin_is) (values_tested (mark_test 1011230) (mark_tested begin_of 1011230 refl (λ k. refl)) refl tt)
 
-pub end_rule : Values (λ i x. x ≡ end_of i) 200 mark_end_list
+pub end_rule : Values (λ i x. x ≡ end_of i) 200 MARK_END
 unfolding mark_end_list mark_test tie_test end_of
-end_rule = values_tested (mark_test 1011929) (mark_tested end_of 1011929 refl (λ k. refl)) refl tt
+end_rule = subst (Values (λ i x. x ≡ end_of i) 200) (sym mark_end_is) (values_tested (mark_test 1011929) (mark_tested end_of 1011929 refl (λ k. refl)) refl tt)
 
 -- ---- what is read
 
 module _ (j : ℕ) where
-  pub power_some : {p : ℕ} → j < 1600 → p ≡ get_or power_list (j / 100) 0 → 0 < p
-  power_some h e = omega (arith, e, power_rule.rule (j / 100) (omega arith), ten_pos (j / 100))
-
-  pub weight_near : {w : ℕ} → j < 100 → w ≡ get_or weight_list j 0 → Bounded unit (weight_of j) w
-  weight_near h e = let q = e ∙ weight_rule.rule j h in record { is = q; most = rw q (weight_most j) }
+  pub weight_near : j < 100 → Bounded unit (weight_of j) (get_or WEIGHT j 0)
+  weight_near h = let q = weight_rule.rule j h in record { is = q; most = rw q (weight_most j) }
 
   pub weight_gone : 1600 ≤ j → Bounded unit (weight_of j) 0
   weight_gone h = record { is = sym (weight_none j h); most = zero-le }
 
-  pub weight_read : {w p : ℕ} → j < 1600 → w ≡ get_or weight_list (j % 100) 0 → p ≡ get_or power_list (j / 100) 0 → Bounded unit (weight_of j) (w / p)
-  weight_read {w} {p} h ew ep =
-      let e : w / p ≡ weight_of j = ap₂ (λ (x y : ℕ). x / y) (ew ∙ weight_rule.rule (j % 100) (mod-lt j (zero-lt-suc 99))) (ep ∙ power_rule.rule (j / 100) (omega arith)) ∙ sym (weight_cut j) in
+  pub weight_read : j < 1600 → Bounded unit (weight_of j) (get_or WEIGHT (j % 100) 0 / get_or POWER (j / 100) 0)
+  weight_read h =
+      let e = ap₂ (λ (x y : ℕ). x / y) (weight_rule.rule (j % 100) (mod-lt j (zero-lt-suc 99))) (power_rule.rule (j / 100) (omega arith)) ∙ sym (weight_cut j) in
       record { is = e; most = rw e (weight_most j) }
 
 -- the ties that a sum of at most 96 weights has passed
+begins_rise : IsNonDecreasing MARK_BEGIN
+begins_rise =
+    IsNonDecreasingBy-from_default (λ x. x) MARK_BEGIN 0
+    (λ i j h l.
+    let k : j < 200 = omega (arith, l, begin_rule.size) in
+    rw (begin_rule.rule i (omega arith), begin_rule.rule j k) (begin_rises i j h))
+
 module _ (w : ℕ) (few : w ≤ 96 * unit) where
-  pub begins_sought : (g : ℕ) → g ≤ 198 → Sought mark_begin_list g w
-  unfolding begin_of
-  begins_sought g h =
-      record {
-        stands =
-            record {
-              some = rw begin_rule.size (lit< tt);
-              first = rw (begin_rule.rule 0 (lit< tt)) zero-le;
-              last = rw (begin_rule.size, begin_rule.rule 199 (lit< tt)) (lt_of_le_of_lt few begin_last);
-            };
-        inside = omega (arith, begin_rule.size);
-        short = omega (arith, begin_rule.size);
-      }
+  pub begins_sought : Sought MARK_BEGIN w
+  begins_sought = record { rises = begins_rise; stands = record { some = lit< tt; first = zero-le; last = lt_of_le_of_lt few (lit< tt) } }
 
-  pub passed_read : (k : ℕ) → Between mark_begin_list w k → k ≡ passed_of w
-  passed_read k b =
+  pub passed_read : {k : ℕ} → Between MARK_BEGIN w k → (k ≡ passed_of w) × (k < 199)
+  passed_read {k} b =
       let inside : k < 199 = omega (arith, b.inside, begin_rule.size) in
-      sym
-      (passed_is w k inside (rw (begin_rule.rule k (omega arith)) at b.low)
-      (rw (add-one, begin_rule.rule (suc k) (omega arith)) at b.high))
-
-pub passed_few : {w k : ℕ} → Between mark_begin_list w k → k < 199
-passed_few b = omega (arith, b.inside, begin_rule.size)
+      let is = passed_is w k inside (rw (begin_rule.rule k (omega arith)) at b.low) (rw (add-one, begin_rule.rule (suc k) (omega arith)) at b.high) in
+      (sym is, inside)
 
 -- and that of a cell beside the loudest level
 module _ (c loud : ℤ) where

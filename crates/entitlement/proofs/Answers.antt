@@ -1,42 +1,34 @@
 -- The answer from four studies: 23, or what their levels give.
 -- Assumes nothing.
 use mathlib.Core.Path.{◌≡◌, refl, sym, ap, ◌∙◌, subst}
-use mathlib.Core.Bool.{◌||◌}
+use mathlib.Core.Bool.{◌&&◌}
+use Rattle.decibel.specs.declared.Level.{Level}
 use Rattle.figures.specs.declared.Period.{Period}
 use Rattle.figures.specs.declared.Period.TheVariants.{Day, Night}
+use Rattle.figures.specs.declared.Periods.{Periods}
 use Rattle.figures.specs.declared.Refusal.{Refusal}
-use Rattle.figures.specs.declared.Check.{Check}
-use Rattle.figures.specs.declared.Check.TheVariants.{Accepted, Refused}
-use Rattle.figures.specs.Refusal.{number_of, check_number, first_refused}
+use Rattle.figures.specs.Refusal.{number_of, check_number, check_of, first_refused}
+use Rattle.figures.specs.Refusal as F
 use Rattle.figures.specs.Rules.{lowest_number}
-use Rattle.figures.proofs.Numbers.{unless_number}
+use Rattle.figures.proofs.Numbers.{unless_number, check_of-answered}
 use Rattle.entitlement.specs.declared.Layout.{Layout}
 use Rattle.entitlement.specs.declared.Change.{Change}
-use Rattle.entitlement.specs.declared.PeriodEntitlement.{PeriodEntitlement}
 use Rattle.entitlement.specs.declared.Entitlement.{Entitlement}
-use Rattle.entitlement.specs.declared.LayoutReport.{LayoutReport}
-use Rattle.entitlement.specs.Conditions.{period_of, ChangeAllowed}
-use Rattle.entitlement.specs.Entitlement.{levels_in, change_in, entitlement_by, refused_entitlement, unless_refused, all_kept, entitlement_check, entitlement_number, entitlement_of, held_change, EntitlementAnsweredBy, EntitlementAllowed, EntitlementAnswered}
-use Rattle.entitlement.specs.Private.{LayoutFew, LayoutReports}
+use Rattle.entitlement.specs.Conditions.{ChangeAllowed}
+use Rattle.entitlement.specs.Entitlement.{Lines, entries_kept, levels_in, change_in, entitlement_by, all_kept, entitlement_check, entitlement_number, entitlement_of, held_change, EntitlementAnsweredBy, EntitlementAllowed, EntitlementAnswered}
+use Rattle.entitlement.specs.Private.{LayoutFew, layout_report}
 use Rattle.entitlement.proofs.Combined.{change_allowed}
-use Rattle.entitlement.proofs.Reports.{reported_held, study_allowed, both_accepted, checks_together}
+use Rattle.entitlement.proofs.Reports.{reported_held, study_allowed, checks_together, layout_check, layout_levels}
+use Rattle.std.specs.Prelude.{Result, Ok, Err}
 
 -- ---- from reported levels
 
-pub house_is : (day night : Change) {x y : PeriodEntitlement} {r : Entitlement} → x ≡ period_of Day (held_change day) → y ≡ period_of Night (held_change night)
-    → r ≡ record { check = Accepted; day = x; night = y; entitled = x.entitled || y.entitled } → EntitlementAnsweredBy day night r
-unfolding entitlement_by
-house_is day night e f g = record { answer = g ∙ rw (e, f); by_day = change_allowed day; by_night = change_allowed night }
+pub house_is : (day night : Change) {r : Entitlement} → r ≡ entitlement_by (held_change day) (held_change night) → EntitlementAnsweredBy day night r
+house_is day night e = record { answer = e; by_day = change_allowed day; by_night = change_allowed night }
 
 -- ---- from studies
 
--- an answer's check
-answer_check : (check : Check) (day night : Change) → (unless_refused check (entitlement_by day night)).check ≡ check
-unfolding entitlement_by refused_entitlement
-answer_check Accepted day night = refl
-answer_check (Refused r) day night = refl
-
-module _ (before after : Layout) (few : LayoutFew before) (room : LayoutFew after) where
+module _ (before after : Layout Lines) (few : LayoutFew before) (room : LayoutFew after) where
   -- what they report, working cells hold as it is
   change_held : (p : Period) → held_change (change_in p before after) ≡ change_in p before after
   unfolding held_change change_in levels_in
@@ -56,31 +48,32 @@ module _ (before after : Layout) (few : LayoutFew before) (room : LayoutFew afte
   number_is = simp unless_number
 
   -- an answer, with its number
-  pub answered : {r : Entitlement} → r ≡ entitlement_of before after → EntitlementAnswered before after r × (check_number r.check ≡ entitlement_number before after)
+  answered : {r : Result Entitlement Refusal} → r ≡ entitlement_of before after → EntitlementAnswered before after r × (check_number (check_of r) ≡ entitlement_number before after)
   unfolding entitlement_of
-  answered is = (
-    record { answer = is; allowed = all_allowed },
-    ap (λ (a : Entitlement). check_number a.check) is ∙ ap check_number (answer_check (entitlement_check before after) (change_in Day before after) (change_in Night before after)) ∙ number_is,
-  )
+  answered is = (record { answer = is; allowed = all_allowed }, ap (λ (a : Result Entitlement Refusal). check_number (check_of a)) is ∙ ap check_number (check_of-answered _ _) ∙ number_is)
 
   -- from the levels of studies that are all given
-  pub given_answer : {r : Entitlement} → entitlement_check before after ≡ Accepted → EntitlementAnsweredBy (change_in Day before after) (change_in Night before after) r → r ≡ entitlement_of before after
-  unfolding entitlement_of
-  given_answer e q = q.answer ∙ rw (change_held Day, change_held Night, e)
+  pub given_answer : {r : Entitlement} → entitlement_check before after ≡ Ok tt → EntitlementAnsweredBy (change_in Day before after) (change_in Night before after) r → Ok r ≡ entitlement_of before after
+  unfolding entitlement_of F.answered
+  given_answer e q = rw (e, q.answer, change_held Day, change_held Night)
 
-module _ (before after : Layout) {old new : LayoutReport} (x : LayoutReports before old) (y : LayoutReports after new) {check : Check} (e : check ≡ first_refused old.check new.check) where
-  check_is : entitlement_check before after ≡ check
-  unfolding entitlement_check all_kept
-  check_is = sym (checks_together _ _ x.check y.check e)
+  module _ {old new : Result (Periods (Layout Level)) Refusal} (x : old ≡ layout_report before) (y : new ≡ layout_report after) where
+    check_is : entitlement_check before after ≡ first_refused (check_of old) (check_of new)
+    unfolding entitlement_check all_kept
+    check_is =
+        sym (checks_together (entries_kept before.altered && entries_kept before.other) (entries_kept after.altered && entries_kept after.other) (rw x (layout_check before)) (rw y (layout_check after)) refl)
 
-  pub refused_answer_lem : {why : Refusal} {r : Entitlement} → check ≡ Refused why → r ≡ refused_entitlement why → EntitlementAnswered before after r × (check_number r.check ≡ entitlement_number before after)
-  unfolding entitlement_of
-  refused_answer_lem f q = answered before after x.few y.few (q ∙ rw (check_is, f))
+    -- 23 of either
+    pub refused_answer_lem : {why : Refusal} {r : Result Entitlement Refusal} → first_refused (check_of old) (check_of new) ≡ Err why → r ≡ Err why
+        → EntitlementAnswered before after r × (check_number (check_of r) ≡ entitlement_number before after)
+    unfolding entitlement_of F.answered
+    refused_answer_lem f q = answered (q ∙ rw (check_is, f))
 
-  pub accepted-answer : {r : Entitlement} → check ≡ Accepted → EntitlementAnsweredBy (record { before = old.day; after = new.day }) (record { before = old.night; after = new.night }) r
-      → EntitlementAnswered before after r × (check_number r.check ≡ entitlement_number before after)
-  unfolding change_in
-  accepted-answer {r} f q =
-      let each = both_accepted old.check new.check (sym e ∙ f) in
-      let levels : EntitlementAnsweredBy (change_in Day before after) (change_in Night before after) r = rw (x.day each.0, y.day each.1, x.night each.0, y.night each.1) at q in
-      answered before after x.few y.few (given_answer before after x.few y.few (check_is ∙ f) levels)
+    -- or what the levels of all four give
+    pub accepted-answer : {a b : Periods (Layout Level)} {r : Entitlement} → old ≡ Ok a → new ≡ Ok b
+        → EntitlementAnsweredBy (record { before = a.day; after = b.day }) (record { before = a.night; after = b.night }) r
+        → EntitlementAnswered before after (Ok r) × (check_number (check_of (Ok r)) ≡ entitlement_number before after)
+    unfolding change_in first_refused check_of
+    accepted-answer {a} {b} {r} f g q =
+        let levels : EntitlementAnsweredBy (change_in Day before after) (change_in Night before after) r = rw (layout_levels before (sym f ∙ x), layout_levels after (sym g ∙ y)) at q in
+        answered (given_answer (check_is ∙ rw (f, g)) levels)

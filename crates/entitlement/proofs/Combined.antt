@@ -3,14 +3,9 @@
 use mathlib.Core.Path.{◌≡◌, refl, ap, ◌∙◌, subst}
 use mathlib.Core.Bool.{Bool, true, false, cond}
 use mathlib.Core.List.{List, [], ◌∷◌}
-use Prim.Native.Nat.{ℕ, ◌≤◌}
-use native.Mathlib.Omega.{arith}
 use lib.IntN.{ℤ, pos, negsuc, ◌+ℤ◌}
 use lib.Signed.{le_z, lt_z}
 use lib.ListN.{take}
-use mir.Syntax.{w32, w64}
-use mir.Val.{SFits}
-use Rattle.decibel.proofs.Ints.{add_most, mag_most, most_mag}
 use Rattle.decibel.specs.declared.Level.{Level}
 use Rattle.decibel.specs.declared.Level.TheVariants.{Silent, Figure}
 use Rattle.energy.specs.declared.Total.{Total}
@@ -21,18 +16,6 @@ use Rattle.request.specs.Levels.{figures, cell_of}
 use Rattle.entitlement.specs.declared.Change.{Change}
 use Rattle.entitlement.specs.Conditions.{combined, exceeds, ChangeAllowed}
 use Rattle.entitlement.specs.Entitlement.{held, held_change}
-
--- ---- a level as cells hold it
-
-module _ {l : Level} {r : ℤ} (e : l ≡ Figure r) where
-  pub held_low : lt_z r (negsuc 1999) ≡ true → Silent ≡ held l
-  held_low f = rw (e, f)
-
-  pub held_high : lt_z r (negsuc 1999) ≡ false → lt_z (pos 2000) r ≡ true → Figure (pos 2000) ≡ held l
-  held_high f g = rw (e, f, g)
-
-  pub held-within : lt_z r (negsuc 1999) ≡ false → lt_z (pos 2000) r ≡ false → Figure r ≡ held l
-  held-within f g = rw (e, f, g)
 
 -- ---- what is heard of two cells
 
@@ -66,10 +49,7 @@ pub change_allowed : (c : Change) → ChangeAllowed (held_change c)
 unfolding held_change
 change_allowed c = record { prevailing = pair_allowed c.before.altered c.before.other; relevant = pair_allowed c.after.altered c.after.other }
 
--- ---- a figure raised by some tenths
-
-pub wide_raised : (a : ℤ) (k : ℕ) → k ≤ 100 → SFits w32 a → SFits w64 (a +ℤ pos k)
-wide_raised a k h f = record { sfits = omega (arith, f.sfits, mag_most (a +ℤ pos k), add_most a (pos k), most_mag a) }
+-- ---- when one exceeds the other
 
 pub figure_exceeds : {l o : Level} {f g : ℤ} {r : Bool} → l ≡ Figure f → o ≡ Figure g → r ≡ le_z (g +ℤ pos 10) f → r ≡ exceeds l o
 unfolding exceeds

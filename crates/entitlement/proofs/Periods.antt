@@ -18,8 +18,8 @@ module _ (p : Period) (c : Change) where
   abbrev after : Total
   after = combined (held c.after.altered) (held c.after.other)
 
-  pub period_is : {x y : Total} {other : Level} {reaches rises contributes : Bool} → x ≡ before → y ≡ after → other ≡ held c.after.other
-      → reaches ≡ met_by p y.level → rises ≡ exceeds y.level x.level → contributes ≡ exceeds y.level other
-      → ◌≡◌ {A = PeriodEntitlement} (record { prevailing = x; relevant = y; reaches = reaches; rises = rises; contributes = contributes; entitled = reaches && (rises && contributes) }) (period_of p (held_change c))
+  pub period_is : {x y : Total} {other : Level} {reaches rises contributes entitled : Bool} → x ≡ before → y ≡ after → other ≡ held c.after.other
+      → reaches ≡ met_by p y.level → rises ≡ exceeds y.level x.level → contributes ≡ exceeds y.level other → entitled ≡ reaches && (rises && contributes)
+      → ◌≡◌ {A = PeriodEntitlement} (record { prevailing = x; relevant = y; reaches = reaches; rises = rises; contributes = contributes; entitled = entitled }) (period_of p (held_change c))
   unfolding period_of period_by held_change
-  period_is e f g m r k = rw (m, r, k, e, f, g)
+  period_is e f g m r k w = rw (w, m, r, k, e, f, g)

@@ -1,9 +1,9 @@
 -- What a study with its mark reports, and that it is a level that working cells hold.
 -- Assumes nothing.
 use mathlib.Core.Path.{◌≡◌, refl, sym, ap, ◌∙◌}
-use mathlib.Core.Bool.{Bool, true, false, cond, ◌&&◌}
+use mathlib.Core.Bool.{Bool, true, false, ◌&&◌}
 use mathlib.Core.List.{List, map}
-use Prim.Native.Nat.{◌+◌, ◌≤◌}
+use Prim.Native.Nat.{ℕ, ◌+◌, ◌≤◌}
 use native.Mathlib.Omega.{arith}
 use borrow.Author.Tests.{le-leb}
 use lib.IntN.{ℤ, pos, negsuc}
@@ -15,24 +15,24 @@ use Rattle.energy.specs.Mark.{total_of}
 use Rattle.energy.proofs.Order.{lt_false}
 use Rattle.energy.proofs.Alone.{total_lies}
 use Rattle.figures.specs.declared.Period.{Period}
+use Rattle.figures.specs.declared.Period.TheVariants.{Day, Night}
 use Rattle.figures.specs.declared.Refusal.TheVariants.{NoEntry}
-use Rattle.figures.specs.declared.Check.{Check}
-use Rattle.figures.specs.declared.Check.TheVariants.{Accepted, Refused}
-use Rattle.figures.specs.Refusal.{unless, first_refused}
-use Rattle.figures.proofs.Kept.{refused_not}
-use Rattle.study.specs.Plan.{Plan, plan_of}
+use Rattle.figures.specs.Refusal.{unless, first_refused, Check, check_of}
+use Rattle.figures.specs.Refusal as F
+use Rattle.figures.proofs.Numbers.{check_of-answered}
+use Rattle.study.specs.declared.Entry.{Entry}
+use Rattle.study.specs.Plan.{Plan}
 use Rattle.study.specs.Add.{ours}
-use Rattle.request.specs.declared.Answer.{Answer}
-use Rattle.request.specs.Levels.{figures, level_at, ground_marks, own_marks, result_by}
-use Rattle.request.specs.Request.{levels_check, request_check, answer_of, answer_by, Answered}
+use Rattle.request.specs.Levels.{Marks, figures, level_at, ground_marks, own_marks, result_by}
+use Rattle.request.specs.Request.{Answer, levels_check, request_check, answer_of, answer_by, Answered}
 use Rattle.request.proofs.Totals.{figures-kept, figures_few, figures_loudest}
 use Rattle.request.proofs.Results.{own_level, own_allowed}
-use Rattle.request.proofs.Answers.{answer_check}
-use Rattle.entitlement.specs.declared.Lines.{Lines}
+use Rattle.figures.specs.declared.Periods.{Periods}
+use Rattle.figures.specs.declared.Refusal.{Refusal}
 use Rattle.entitlement.specs.declared.Layout.{Layout}
-use Rattle.entitlement.specs.declared.LinesReport.{LinesReport}
-use Rattle.entitlement.specs.Entitlement.{reported_in, levels_in, entries_kept, held, StudyAllowed}
-use Rattle.entitlement.specs.Private.{Few, Reports, LayoutReports}
+use Rattle.entitlement.specs.Entitlement.{Lines, reported_in, levels_in, entries_kept, held, StudyAllowed}
+use Rattle.entitlement.specs.Private.{Few, report, both_reports, layout_report}
+use Rattle.std.specs.Prelude.{Some, None, Result, Ok, Err}
 
 -- ---- a level that cells hold is held as it is
 
@@ -50,74 +50,73 @@ plan_held p plan few =
 
 pub reported_held : (p : Period) (x : Lines) → Few x → held (reported_in p x) ≡ reported_in p x
 unfolding reported_in
-reported_held p x few = go x.empty
-  where
-    l : Level
-    l = (result_by p (plan_of x.study) (own_marks (plan_of x.study))).level
-
-    go : (b : Bool) → held (cond b Silent l) ≡ cond b Silent l
-    go true = refl
-    go false = plan_held p (plan_of x.study) few
+reported_held p None few = refl
+reported_held p (Some plan) few = plan_held p plan few
 
 -- ---- one study
 
-module _ (x : Lines) (few : Few x) where
-  pub study_allowed : StudyAllowed x
-  study_allowed = own_allowed (plan_of x.study) few
+pub study_allowed : (x : Lines) → Few x → StudyAllowed x
+study_allowed None few = tt
+study_allowed (Some plan) few = own_allowed plan few
 
-  pub empty_reports : x.empty ≡ true → Reports x (record { check = Accepted; day = Silent; night = Silent })
-  unfolding entries_kept unless reported_in
-  empty_reports e = record { check = rw e; day = λ _. rw e; night = λ _. rw e; few = few }
+pub empty_reports : report None ≡ Ok (record { day = Silent; night = Silent })
+unfolding report entries_kept unless reported_in F.answered
+empty_reports = refl
 
-  module _ (e : x.empty ≡ false) {before after : List ℤ} {r : Answer} (q : Answered x.study before after r) (room : length before ≡ 192) where
-    -- so many cells are enough for every study
-    enough : levels_check (plan_of x.study) (length before) ≡ unless (entries_kept x) NoEntry Accepted
-    unfolding levels_check request_check entries_kept unless
-    enough = let n = length (plan_of x.study).entries in rw (room, e, le-leb (n + n) 192 (omega arith))
+-- the levels of what a request answers
+abbrev pub levels_from : Answer → Result (Periods Level) Refusal
+levels_from (Ok both) = Ok (record { day = both.day.level; night = both.night.level })
+levels_from (Err r) = Err r
 
-    answer_is : r ≡ answer_by (unless (entries_kept x) NoEntry Accepted) (plan_of x.study) (own_marks (plan_of x.study))
-    answer_is = rw enough at q.by.answer
+module _ {plan : Plan} {before after : List ℤ} {es : List Entry} where
+  pub study_reports : {r : Answer} → Answered plan before after r → es ≡ plan.entries → length es + length es ≤ length before → report (Some plan) ≡ levels_from r
+  unfolding report reported_in entries_kept levels_check request_check unless answer_of F.answered
+  study_reports q is room = sym (ap levels_from (rw enough at q.by.answer) ∙ go (unless (entries_kept (Some plan)) NoEntry (Ok tt)))
+    where
+      n : ℕ
+      n = length plan.entries
 
-    check_is : r.check ≡ unless (entries_kept x) NoEntry Accepted
-    check_is = ap (λ (a : Answer). a.check) answer_is ∙ answer_check _ _ _
+      m : Marks
+      m = own_marks plan
 
-    accepted_is : r.check ≡ Accepted → r ≡ answer_by Accepted (plan_of x.study) (own_marks (plan_of x.study))
-    accepted_is h = rw (sym check_is ∙ h) at answer_is
+      -- so many cells are enough
+      enough : levels_check plan (length before) ≡ unless (entries_kept (Some plan)) NoEntry (Ok tt)
+      enough = rw (le-leb (n + n) (length before) (rw is at room))
 
-    pub study_reports : Reports x (record { check = r.check; day = r.day.level; night = r.night.level })
-    unfolding reported_in answer_of
-    study_reports =
-        record {
-          check = check_is;
-          day = λ h. ap (λ (a : Answer). a.day.level) (accepted_is h) ∙ rw e;
-          night = λ h. ap (λ (a : Answer). a.night.level) (accepted_is h) ∙ rw e;
-          few = few;
-        }
+      go : (check : Check) → levels_from (answer_by check plan m) ≡ F.answered check (record { day = (result_by Day plan m).level; night = (result_by Night plan m).level })
+      go (Ok _) = refl
+      go (Err r) = refl
 
 -- ---- two
 
-both_given : (a b : Bool) → first_refused (unless a NoEntry Accepted) (unless b NoEntry Accepted) ≡ unless (a && b) NoEntry Accepted
+both_given : (a b : Bool) → first_refused (unless a NoEntry (Ok tt)) (unless b NoEntry (Ok tt)) ≡ unless (a && b) NoEntry (Ok tt)
 unfolding first_refused unless
 both_given true b = refl
 both_given false b = refl
 
--- where both together are accepted, each is
-pub both_accepted : (a b : Check) → first_refused a b ≡ Accepted → (a ≡ Accepted) × (b ≡ Accepted)
-unfolding first_refused
-both_accepted Accepted b e = (refl, e)
-both_accepted (Refused r) b e = refused_not e
-
-pub checks_together : (a b : Bool) {c d e : Check} → c ≡ unless a NoEntry Accepted → d ≡ unless b NoEntry Accepted → e ≡ first_refused c d → e ≡ unless (a && b) NoEntry Accepted
+pub checks_together : (a b : Bool) {c d e : Check} → c ≡ unless a NoEntry (Ok tt) → d ≡ unless b NoEntry (Ok tt) → e ≡ first_refused c d → e ≡ unless (a && b) NoEntry (Ok tt)
 checks_together a b f g h = h ∙ rw (f, g) (both_given a b)
 
-pub layout_reports : (x : Layout) {altered other : LinesReport} {check : Check} → Reports x.altered altered → Reports x.other other → check ≡ first_refused altered.check other.check
-    → LayoutReports x (record { check = check; day = record { altered = altered.day; other = other.day }; night = record { altered = altered.night; other = other.night } })
-unfolding levels_in
-layout_reports x {altered} {other} {check} a o e =
-    let each : check ≡ Accepted → (altered.check ≡ Accepted) × (other.check ≡ Accepted) = λ h. both_accepted altered.check other.check (sym e ∙ h) in
-    record {
-      check = checks_together (entries_kept x.altered) (entries_kept x.other) a.check o.check e;
-      day = λ h. rw (a.day (each h).0, o.day (each h).1);
-      night = λ h. rw (a.night (each h).0, o.night (each h).1);
-      few = record { altered = a.few; other = o.few };
-    }
+-- a layout reports what refuses the first of the two that is refused
+both_check : (altered other : Result (Periods Level) Refusal) → check_of (both_reports altered other) ≡ first_refused (check_of altered) (check_of other)
+unfolding check_of first_refused
+both_check (Ok a) (Ok o) = refl
+both_check (Ok a) (Err r) = refl
+both_check (Err r) other = refl
+
+pub layout_check : (x : Layout Lines) → check_of (layout_report x) ≡ unless (entries_kept x.altered && entries_kept x.other) NoEntry (Ok tt)
+unfolding layout_report report
+layout_check x = checks_together (entries_kept x.altered) (entries_kept x.other) (check_of-answered _ _) (check_of-answered _ _) (both_check (report x.altered) (report x.other))
+
+-- or the levels of both
+pub layout_levels : (x : Layout Lines) {levels : Periods (Layout Level)} → Ok levels ≡ layout_report x → levels ≡ record { day = levels_in Day x; night = levels_in Night x }
+unfolding layout_report report levels_in F.answered
+layout_levels x {levels} = go (unless (entries_kept x.altered) NoEntry (Ok tt)) (unless (entries_kept x.other) NoEntry (Ok tt))
+  where
+    of : Lines → Periods Level
+    of y = record { day = reported_in Day y; night = reported_in Night y }
+
+    go : (a b : Check) → Ok levels ≡ both_reports (F.answered a (of x.altered)) (F.answered b (of x.other)) → levels ≡ record { day = levels_in Day x; night = levels_in Night x }
+    go (Ok _) (Ok _) e = cc
+    go (Ok _) (Err r) e = cc
+    go (Err r) b e = cc

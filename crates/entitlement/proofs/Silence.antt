@@ -2,12 +2,10 @@
 -- Assumes nothing.
 use mathlib.Core.Path.{◌≡◌, refl, sym, ap, ◌∙◌, subst}
 use mathlib.Core.List.{List}
-use mathlib.Core.Bool.{Bool, true, false, cond, ◌||◌}
+use mathlib.Core.Bool.{Bool, true, false, cond}
 use native.Mathlib.Omega.{arith}
-use lib.Dec.{ltb}
 use lib.IntN.{ℤ, pos, negsuc, ◌+ℤ◌}
 use lib.Signed.{lt_z, ◌≤ℤ◌}
-use lib.ListN.{length}
 use Rattle.decibel.proofs.Ints.{add_is, ints}
 use Rattle.decibel.specs.declared.Level.{Level}
 use Rattle.decibel.specs.declared.Level.TheVariants.{Silent, Figure}
@@ -17,22 +15,18 @@ use Rattle.energy.specs.declared.Total.{Total}
 use Rattle.energy.proofs.Order.{le_false, not_less}
 use Rattle.energy.proofs.Alone.{no_figure, total_alone}
 use Rattle.figures.specs.declared.Period.{Period}
-use Rattle.figures.specs.declared.Period.TheVariants.{Day, Night}
-use Rattle.request.specs.Levels.{figures, met_by, result_by, own_marks}
-use Rattle.study.specs.declared.Study.{Study}
-use Rattle.study.specs.Plan.{plan_of, empty_study}
+use Rattle.request.specs.Levels.{figures, met_by}
+use Rattle.study.specs.Plan.{empty_plan}
 use Rattle.study.specs.Add.{ours}
 use Rattle.study.specs.Run.{Addition, run}
 use Rattle.study.proofs.Plans.{accepted-held}
 use Rattle.study.proofs.Runs.{run-accepted}
-use Rattle.request.proofs.Demand3.{ours_fit}
-use Rattle.entitlement.specs.declared.Lines.{Lines}
 use Rattle.entitlement.specs.declared.Layout.{Layout}
-use Rattle.entitlement.specs.declared.Levels.{Levels}
 use Rattle.entitlement.specs.Conditions.{combined, unmarked, exceeds, period_by, period_of}
-use Rattle.entitlement.specs.Entitlement.{reported_in, levels_in, change_in, entries_kept, all_kept, entitlement_check, entitlement_of, held}
+use Rattle.entitlement.specs.Entitlement.{reported_in, entitlement_of, held}
 use Rattle.entitlement.proofs.Reports.{reported_held}
-use Rattle.entitlement.specs.Silence.{as_read, layout_as_read, SilenceMeans}
+use Rattle.entitlement.specs.Silence.{Marked, given, layout_given, as_read, layout_as_read, SilenceMeans}
+use Rattle.std.specs.Prelude.{Some, None}
 
 -- ---- a level alone
 
@@ -65,50 +59,29 @@ unfolding exceeds
 itself Silent = refl
 itself (Figure f) = le_false (f +ℤ pos 10) f (omega (arith, ints, add_is f (pos 10)))
 
-nothing_added : (p : Period) (before : Levels) (l : Level) → held l ≡ l → (period_of p (record { before = before; after = record { altered = Silent; other = l } })).contributes ≡ false
+nothing_added : (p : Period) (before : Layout Level) (l : Level) → held l ≡ l → (period_of p (record { before = before; after = record { altered = Silent; other = l } })).contributes ≡ false
 unfolding period_of period_by
 nothing_added p before l h = ap (λ (t : Total). exceeds t.level l) (alone l h).1 ∙ itself l
 
-run-held : (p : Period) (empty : Bool) (additions : List Addition) → let l = reported_in p (record { empty = empty; study = run ours additions }) in held l ≡ l
-run-held p empty additions = reported_held p _ (rw (run-accepted ours ours_fit additions) (accepted-held ours additions).total)
+run-held : (p : Period) (empty : Bool) (additions : List Addition) → let l = reported_in p (given (record { empty = empty; study = run ours additions })) in held l ≡ l
+run-held p true additions = reported_held p None tt
+run-held p false additions = reported_held p (Some (run ours additions)) (rw (run-accepted ours additions) (accepted-held ours additions).total)
 
 -- ---- lines as they are read
 
 -- the mark decides before the study is looked at
-module _ {A : Type 0} (hidden : A) (of : Study → A) where
-  unseen : (b : Bool) (st : Study) → cond b hidden (of st) ≡ cond b hidden (of (cond b empty_study st))
-  unseen true st = refl
-  unseen false st = refl
-
-report_unread : (p : Period) (x : Lines) → reported_in p x ≡ reported_in p (as_read x)
-unfolding reported_in
-report_unread p x = unseen Silent (λ st. (result_by p (plan_of st) (own_marks (plan_of st))).level) x.empty x.study
-
-given_unread : (x : Lines) → entries_kept x ≡ entries_kept (as_read x)
-unfolding entries_kept
+given_unread : (x : Marked) → given x ≡ given (as_read x)
 given_unread x = go x.empty
   where
-    go : (b : Bool) → (b || ltb 0 (length (plan_of x.study).entries)) ≡ (b || ltb 0 (length (plan_of (cond b empty_study x.study)).entries))
+    go : (b : Bool) → cond b None (Some x.study) ≡ cond b None (Some (cond b empty_plan x.study))
     go true = refl
     go false = refl
 
-levels_unread : (p : Period) (x : Layout) → levels_in p x ≡ levels_in p (layout_as_read x)
-unfolding levels_in
-levels_unread p x = rw (report_unread p x.altered, report_unread p x.other)
+layout_unread : (x : Layout Marked) → layout_given x ≡ layout_given (layout_as_read x)
+layout_unread x = rw (given_unread x.altered, given_unread x.other)
 
-unread : (before after : Layout) → entitlement_of before after ≡ entitlement_of (layout_as_read before) (layout_as_read after)
-unfolding entitlement_of entitlement_check all_kept change_in
-unread before after =
-    rw (
-      given_unread before.altered,
-      given_unread before.other,
-      given_unread after.altered,
-      given_unread after.other,
-      levels_unread Day before,
-      levels_unread Day after,
-      levels_unread Night before,
-      levels_unread Night after,
-    )
+unread : (before after : Layout Marked) → entitlement_of (layout_given before) (layout_given after) ≡ entitlement_of (layout_given (layout_as_read before)) (layout_given (layout_as_read after))
+unread before after = rw (layout_unread before, layout_unread after)
 
 pub silence_means : SilenceMeans
 unfolding period_by exceeds met_by

@@ -9,7 +9,7 @@ use Rattle.energy.specs.Total.{TotalMark}
 use Rattle.energy.specs.Mark.{total_of}
 use Rattle.figures.specs.declared.Period.{Period}
 use Rattle.request.specs.Levels.{figures, met_by}
-use Rattle.entitlement.specs.declared.Levels.{Levels}
+use Rattle.entitlement.specs.declared.Layout.{Layout}
 use Rattle.entitlement.specs.declared.Change.{Change}
 use Rattle.entitlement.specs.declared.PeriodEntitlement.{PeriodEntitlement}
 
@@ -42,7 +42,7 @@ period_of p c =
     period_by p (combined c.before.altered c.before.other) (combined c.after.altered c.after.other) c.after.other
 
 -- 01 allows the mark of a combination
-abbrev pub CombinedAllowed : Levels → Type 0
+abbrev pub CombinedAllowed : Layout Level → Type 0
 CombinedAllowed x = TotalMark (figures (x.altered ∷ x.other ∷ [])) (combined x.altered x.other).close
 
 pub record ChangeAllowed (c : Change) : Type 0 where

@@ -14,11 +14,10 @@ use Rattle.figures.specs.declared.Segment.{Segment}
 use Rattle.figures.specs.declared.Train.{Train}
 use Rattle.figures.specs.declared.Refusal.{Refusal}
 use Rattle.figures.specs.declared.Refusal.TheVariants.{Distance, Height, Ground, Angle, Screen, Row, Speed, Vehicles, Trains}
-use Rattle.figures.specs.declared.Check.{Check}
-use Rattle.figures.specs.declared.Check.TheVariants.{Accepted, Refused}
-use Rattle.figures.specs.Refusal.{unless, first_refused}
+use Rattle.figures.specs.Refusal.{unless, first_refused, Check}
 use Rattle.figures.specs.Rules.{least_distance, most_distance, lowest_window, highest_window, highest_mean, least_gap, lowest_top, highest_top, highest_wall, most_soft, least_view, widest_angle, most_chart, most_track, lowest_ballast, most_row, least_speed, most_speed, most_vehicles, most_trains, within, distance_kept, heights_kept, soft_kept, angles_kept, unscreened, unscreened_kept, screened_kept, screen_kept, ranges_then, range_check, readings_kept, row_kept, speed_kept, vehicles_kept, trains_kept, train_check}
-use Rattle.figures.specs.Private.{From, Signed, Ranged, ReadingsRanged, TrainRanged}
+use Rattle.figures.proofs.Ranged.{From, Signed, Ranged, ReadingsRanged, TrainRanged}
+use Rattle.std.specs.Prelude.{Ok, Err}
 
 -- ---- tests that hold
 
@@ -45,15 +44,15 @@ signed_within l b (negsuc n) e = record { most = omega arith; least = omega (ari
 -- ---- the chain of refusals
 
 -- what is refused is not accepted
-pub refused_not {ℓ} : {A : Type ℓ} {r : Refusal} → Refused r ≡ Accepted → A
+pub refused_not {ℓ} : {A : Type ℓ} {r : Refusal} → ◌≡◌ {A = Check} (Err r) (Ok tt) → A
 refused_not e = let z : ◌≡◌ {A = ℕ} 0 1 = cc in let x : ⊥ = omega arith in absurd x
 
-pub first_kept : (b : Bool) (r : Refusal) (rest : Check) → unless b r rest ≡ Accepted → b ≡ true
+pub first_kept : (b : Bool) (r : Refusal) (rest : Check) → unless b r rest ≡ Ok tt → b ≡ true
 unfolding unless
 first_kept true r rest e = refl
 first_kept false r rest e = refused_not e
 
-pub rest_kept : (b : Bool) (r : Refusal) (rest : Check) → unless b r rest ≡ Accepted → rest ≡ Accepted
+pub rest_kept : (b : Bool) (r : Refusal) (rest : Check) → unless b r rest ≡ Ok tt → rest ≡ Ok tt
 unfolding unless
 rest_kept true r rest e = e
 rest_kept false r rest e = refused_not e
@@ -133,7 +132,7 @@ heights_in s k =
     (signed_within 4999 highest_window s.height (and_left window _ k), from_within 0 highest_mean s.mean (and_right window _ k))
 
 -- where a chain that begins with lines 1 to 5 ends in acceptance
-pub ranged : (s : Segment) (later : Check) → ranges_then s later ≡ Accepted → Ranged s × (later ≡ Accepted)
+pub ranged : (s : Segment) (later : Check) → ranges_then s later ≡ Ok tt → Ranged s × (later ≡ Ok tt)
 unfolding ranges_then distance_kept soft_kept angles_kept
 ranged s later e1 =
     let e2 = rest_kept (distance_kept s) Distance _ e1 in
@@ -173,7 +172,7 @@ readings_ranged s sign k =
       opposite = from_within 0 (up s.view) s.opposite (subst (λ (z : ℤ). within (pos 0) z s.opposite ≡ true) (sym (up_pos s.view sign)) (and_right (within (pos 0) (pos 1) s.facade) _ r3));
     }
 
-pub train_ranged : (t : Train) → train_check t ≡ Accepted → TrainRanged t
+pub train_ranged : (t : Train) → train_check t ≡ Ok tt → TrainRanged t
 unfolding train_check row_kept speed_kept vehicles_kept trains_kept
 train_ranged t e1 =
     let e2 = rest_kept (row_kept t) Row _ e1 in

@@ -1,3 +1,4 @@
+pub mod Ranged
 pub mod Signs
 pub mod Squares
 pub mod Read

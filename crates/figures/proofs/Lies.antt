@@ -11,7 +11,7 @@ use Rattle.decibel.specs.Round.{micro, IsFence}
 use Rattle.decibel.proofs.Ints.{add_is, add_most, neg_is, le_is, is_le, from_parts, ints}
 use Rattle.decibel.proofs.Round.{Near, micro_is}
 use Rattle.decibel.proofs.Fences.{fence_low, fence_high}
-use Rattle.figures.specs.Private.{From, Signed}
+use Rattle.figures.proofs.Ranged.{From, Signed}
 
 -- ---- numbers from -l to u
 

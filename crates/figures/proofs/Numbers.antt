@@ -1,15 +1,15 @@
 -- The number of the first line that is not kept: a chain of lines, by its numbers.
 -- Assumes nothing.
-use mathlib.Core.Path.{◌≡◌, refl, ◌∙◌, ap}
+use mathlib.Core.Path.{◌≡◌, refl}
 use mathlib.Core.Bool.{Bool, true, false, cond, not}
 use mathlib.Core.List.{List, ◌++◌}
 use Prim.Native.Nat.{ℕ}
 use Rattle.figures.specs.declared.Segment.{Segment}
 use Rattle.figures.specs.declared.Train.{Train}
 use Rattle.figures.specs.declared.Refusal.{Refusal}
-use Rattle.figures.specs.declared.Check.{Check}
-use Rattle.figures.specs.Refusal.{number_of, check_number, unless, first_refused}
-use Rattle.figures.specs.Rules.{ranges_then, range_check, train_check, lowest_number, range_lines, train_lines}
+use Rattle.std.specs.Prelude.{Ok, Err}
+use Rattle.figures.specs.Refusal.{number_of, check_number, unless, first_refused, Check, answered, check_of}
+use Rattle.figures.specs.Rules.{ranges_then, train_check, lowest_number, range_lines, train_lines}
 
 -- one line of a chain
 pub unless_number : (kept : Bool) (r : Refusal) (rest : Check) → check_number (unless kept r rest) ≡ cond kept (check_number rest) (number_of r)
@@ -28,18 +28,13 @@ pub ranges_number : (s : Segment) (later : Check) (lines : List (ℕ × Bool)) �
 unfolding ranges_then range_lines lowest_number number_of
 ranges_number s later lines e = simp (unless_number, e)
 
-range_number : (s : Segment) → check_number (range_check s) ≡ lowest_number (range_lines s)
-unfolding range_check ranges_then range_lines lowest_number check_number number_of
-range_number s = simp unless_number
-
 pub train_number_lem : (t : Train) → check_number (train_check t) ≡ lowest_number (train_lines t)
 unfolding train_check train_lines lowest_number check_number number_of
 train_number_lem t = simp unless_number
 
--- ---- a check, and its number
+-- ---- a check with a value
 
-pub range_checked : (s : Segment) {r : Check} → r ≡ range_check s → (r ≡ range_check s) × (check_number r ≡ lowest_number (range_lines s))
-range_checked s e = (e, ap check_number e ∙ range_number s)
-
-pub train_checked : (t : Train) {r : Check} → r ≡ train_check t → (r ≡ train_check t) × (check_number r ≡ lowest_number (train_lines t))
-train_checked t e = (e, ap check_number e ∙ train_number_lem t)
+pub check_of-answered : {A : Type 0} (c : Check) (x : A) → check_of (answered c x) ≡ c
+unfolding check_of answered
+check_of-answered (Ok _) x = refl
+check_of-answered (Err r) x = refl

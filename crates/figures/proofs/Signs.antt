@@ -16,7 +16,8 @@ use Rattle.decibel.specs.Ints.{up, dn}
 use Rattle.decibel.proofs.Ints.{add_most, neg_is, mag_most, most_mag}
 use Rattle.decibel.proofs.Words.{back}
 use Rattle.figures.specs.Bounds.{Below}
-use Rattle.figures.specs.Private.{From, Signed, Exactly}
+use Rattle.figures.specs.Private.{Exactly}
+use Rattle.figures.proofs.Ranged.{From, Signed}
 use Rattle.figures.specs.Rules.{least_gap}
 
 -- ---- a signed figure as a natural number

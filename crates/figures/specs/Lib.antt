@@ -1,4 +1,5 @@
 pub mod Refusal
+pub mod Periods
 pub mod Geometry
 pub mod Rules
 pub mod Bounds

@@ -1,10 +1,8 @@
 -- Refusals and their numbers (01, "Turned back"; 02, L6).
 -- Assumes nothing.
-use Rattle.std.specs.Prelude.{ℕ, Bool, true, false}
+use Rattle.std.specs.Prelude.{ℕ, Bool, true, false, Result, Ok, Err}
 use Rattle.figures.specs.declared.Refusal.{Refusal}
 use Rattle.figures.specs.declared.Refusal.TheVariants.{Distance, Height, Ground, Angle, Screen, Shadow, Reading, Row, Speed, Vehicles, Trains, Form, Contents, NoSegment, SegmentLimit, EntryLimit, NoEntry, FewCells, EntryNumber, NoSpeed}
-use Rattle.figures.specs.declared.Check.{Check}
-use Rattle.figures.specs.declared.Check.TheVariants.{Accepted, Refused}
 
 -- the number of each refusal: 01's, then those that a request of 02 has added
 unfoldable pub number_of : Refusal → ℕ
@@ -29,21 +27,31 @@ number_of FewCells = 24
 number_of EntryNumber = 25
 number_of NoSpeed = 26
 
--- of a check: 0 where nothing is refused
+-- what a test of figures or of a study answers: accepted, or why not
+abbrev pub Check : Type 0
+Check = Result (Unit {0}) Refusal
+
+-- its number: 0 where nothing is refused
 unfoldable pub check_number : Check → ℕ
-check_number Accepted = 0
-check_number (Refused r) = number_of r
+check_number (Ok _) = 0
+check_number (Err r) = number_of r
 
 -- the refusal where its line is not kept, else what the later lines say
 unfoldable pub unless : Bool → Refusal → Check → Check
 unless true r rest = rest
-unless false r rest = Refused r
+unless false r rest = Err r
 
 -- the first of two checks where it refuses, else the second
 unfoldable pub first_refused : Check → Check → Check
-first_refused Accepted second = second
-first_refused (Refused r) second = Refused r
+first_refused (Ok _) second = second
+first_refused (Err r) second = Err r
 
-unfoldable pub is_accepted : Check → Bool
-is_accepted Accepted = true
-is_accepted (Refused r) = false
+-- a value where a check accepts, else the refusal
+unfoldable pub answered : {A : Type 0} → Check → A → Result A Refusal
+answered (Ok _) x = Ok x
+answered (Err r) x = Err r
+
+-- the check of such an answer
+unfoldable pub check_of : {A : Type 0} → Result A Refusal → Check
+check_of (Ok _) = Ok tt
+check_of (Err r) = Err r

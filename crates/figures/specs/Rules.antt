@@ -1,14 +1,12 @@
 -- The lines that a segment and a train entry keep (01, "The study"; 02, L1 and L4), each bound by its name, and the first line that is not kept (01, "Turned back
 -- for a figure"). Line 6 needs the screen's lengths and stands with the screen (crate propagation).
 -- Assumes nothing.
-use Rattle.std.specs.Prelude.{Bool, cond, ◌&&◌, ◌||◌, List, [], ◌∷◌, ℕ, ℤ, pos, neg_ℤ, ◌+ℤ◌}
+use Rattle.std.specs.Prelude.{Bool, cond, ◌&&◌, ◌||◌, List, [], ◌∷◌, ℕ, ℤ, pos, neg_ℤ, ◌+ℤ◌, Ok}
 use Rattle.std.specs.Int.Signed.{le_z}
 use Rattle.figures.specs.declared.Segment.{Segment}
 use Rattle.figures.specs.declared.Train.{Train}
 use Rattle.figures.specs.declared.Refusal.TheVariants.{Distance, Height, Ground, Angle, Screen, Row, Speed, Vehicles, Trains}
-use Rattle.figures.specs.declared.Check.{Check}
-use Rattle.figures.specs.declared.Check.TheVariants.{Accepted}
-use Rattle.figures.specs.Refusal.{unless}
+use Rattle.figures.specs.Refusal.{unless, Check}
 
 -- ---- the bounds
 
@@ -131,7 +129,7 @@ ranges_then s later =
 
 -- those lines alone
 unfoldable pub range_check : Segment → Check
-range_check s = ranges_then s Accepted
+range_check s = ranges_then s (Ok tt)
 
 -- 7: fields 11 to 14 in another way
 unfoldable pub readings_kept : Segment → Bool
@@ -154,7 +152,7 @@ trains_kept t = within (pos 0) (pos most_trains) t.day && within (pos 0) (pos mo
 
 -- the first line that a train entry does not keep
 unfoldable pub train_check : Train → Check
-train_check t = unless (row_kept t) Row (unless (speed_kept t) Speed (unless (vehicles_kept t) Vehicles (unless (trains_kept t) Trains Accepted)))
+train_check t = unless (row_kept t) Row (unless (speed_kept t) Speed (unless (vehicles_kept t) Vehicles (unless (trains_kept t) Trains (Ok tt))))
 
 -- ---- the same by 01's numbers
 

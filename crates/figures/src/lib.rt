@@ -3,15 +3,15 @@
 
 pub mod ranges;
 
-ghost use Rattle.std.specs.Prelude.{◌≡◌, cond, ◌*ℤ◌};
+ghost use Rattle.std.specs.Prelude.{◌≡◌, ◌*ℤ◌};
 ghost use Rattle.decibel.specs.Ints.{up};
 ghost use Rattle.figures.specs.Geometry.{slant, in_shadow};
 ghost use Rattle.figures.specs.Private.{Square};
-ghost use Rattle.figures.specs.Refusal.{number_of, check_number, unless, first_refused, is_accepted};
+ghost use Rattle.figures.specs.Refusal.{number_of, check_number};
 ghost use Rattle.figures.specs.Rules.{within, unscreened};
 
 // One length of track as document 01 and request L1 number its fields: lengths in centimetres but for the last, angles in degrees, readings in tenths.
-#[derive(Clone, Copy)]
+#[derive(Clone, Copy, Default)]
 pub struct Segment {
     // d, horizontal distance to the source line
     pub distance: i32,
@@ -25,7 +25,7 @@ pub struct Segment {
     pub view: i32,
     // a, twice the angle α of Figure 9
     pub doubled: i32,
-    // 0 none, 1 absorbent, 2 reflective
+    // 0 none, 1 absorbent, 2 reflective: the number as typed, since a type of its own would ask more of callers
     pub screen: i32,
     // D, source to screen
     pub setback: i32,
@@ -37,7 +37,7 @@ pub struct Segment {
     pub track: i32,
     // ballast reading
     pub ballast: i32,
-    // 1 with a facade correction
+    // 1 with a facade correction; the number as typed, likewise
     pub facade: i32,
     // θ', angle of opposite reflecting facades
     pub opposite: i32,
@@ -46,7 +46,7 @@ pub struct Segment {
 }
 
 // A train entry: row of Table A1.1, speed in km/h, vehicles, and trains by day and by night.
-#[derive(Clone, Copy)]
+#[derive(Clone, Copy, Default)]
 pub struct Train {
     pub row: i32,
     pub speed: i32,
@@ -60,6 +60,28 @@ pub struct Train {
 pub enum Period {
     Day,
     Night,
+}
+
+// What there is of each period.
+#[derive(Clone, Copy)]
+pub struct Periods<T> {
+    pub day: T,
+    pub night: T,
+}
+
+impl<T: Copy> Periods<T> {
+    ghost use Rattle.figures.specs.Periods.{in_period};
+
+    // That of one of them.
+    #[tactic(auto, unfolding(crate::specs::Periods::in_period))]
+    pub fn of(self, period: Period) -> T
+        ensures { result ≡ in_period period self }
+    {
+        match period {
+            Period::Day => self.day,
+            Period::Night => self.night,
+        }
+    }
 }
 
 // Why something is turned back, in the order of the documents' numbers.
@@ -100,74 +122,45 @@ pub enum Refusal {
     NoSpeed,
 }
 
-// Accepted, or why not.
-#[derive(Clone, Copy)]
-pub enum Check {
-    Accepted,
-    Refused(Refusal),
-}
-
 // The documents' number of a refusal.
-#[tactic(auto, unfolding(crate::specs::Refusal::number_of))]
-pub fn number(refusal: Refusal) -> u32
-    ensures { result ≡ number_of refusal }
-{
-    match refusal {
-        Refusal::Distance => 1,
-        Refusal::Height => 2,
-        Refusal::Ground => 3,
-        Refusal::Angle => 4,
-        Refusal::Screen => 5,
-        Refusal::Shadow => 6,
-        Refusal::Reading => 7,
-        Refusal::Row => 8,
-        Refusal::Speed => 9,
-        Refusal::Vehicles => 10,
-        Refusal::Trains => 11,
-        Refusal::Form => 12,
-        Refusal::Contents => 13,
-        Refusal::NoSegment => 20,
-        Refusal::SegmentLimit => 21,
-        Refusal::EntryLimit => 22,
-        Refusal::NoEntry => 23,
-        Refusal::FewCells => 24,
-        Refusal::EntryNumber => 25,
-        Refusal::NoSpeed => 26,
+impl From<Refusal> for u32 {
+    ghost from_gives = { λ refusal number. number ≡ number_of refusal };
+
+    #[tactic(auto, unfolding(crate::specs::Refusal::number_of))]
+    fn from(refusal: Refusal) -> u32 {
+        match refusal {
+            Refusal::Distance => 1,
+            Refusal::Height => 2,
+            Refusal::Ground => 3,
+            Refusal::Angle => 4,
+            Refusal::Screen => 5,
+            Refusal::Shadow => 6,
+            Refusal::Reading => 7,
+            Refusal::Row => 8,
+            Refusal::Speed => 9,
+            Refusal::Vehicles => 10,
+            Refusal::Trains => 11,
+            Refusal::Form => 12,
+            Refusal::Contents => 13,
+            Refusal::NoSegment => 20,
+            Refusal::SegmentLimit => 21,
+            Refusal::EntryLimit => 22,
+            Refusal::NoEntry => 23,
+            Refusal::FewCells => 24,
+            Refusal::EntryNumber => 25,
+            Refusal::NoSpeed => 26,
+        }
     }
 }
 
 // The number of a check, 0 where nothing is refused.
 #[tactic(auto, unfolding(crate::specs::Refusal::check_number))]
-pub fn check_number(check: Check) -> u32
+pub fn check_number(check: Result<(), Refusal>) -> u32
     ensures { result ≡ check_number check }
 {
     match check {
-        Check::Accepted => 0,
-        Check::Refused(refusal) => number(refusal),
-    }
-}
-
-// The refusal where its line is not kept, else what the later lines say.
-#[tactic(auto, unfolding(crate::specs::Refusal::unless, crate::specs::Refusal::check_number))]
-pub fn unless(kept: bool, refusal: Refusal, rest: Check) -> Check
-    ensures is { result ≡ unless kept refusal rest }
-    ensures number { check_number result ≡ cond kept (check_number rest) (number_of refusal) }
-{
-    if kept {
-        return rest;
-    }
-    Check::Refused(refusal)
-}
-
-// The first of two checks where it refuses, else the second.
-#[tactic(auto, unfolding(crate::specs::Refusal::first_refused, crate::specs::Refusal::is_accepted))]
-pub fn first_refused(first: Check, second: Check) -> Check
-    ensures is { result ≡ first_refused first second }
-    ensures number { check_number result ≡ cond (is_accepted first) (check_number second) (check_number first) }
-{
-    match first {
-        Check::Accepted => second,
-        Check::Refused(_) => first,
+        Ok(()) => 0,
+        Err(refusal) => u32::from(refusal),
     }
 }
 
@@ -175,31 +168,21 @@ pub fn first_refused(first: Check, second: Check) -> Check
 pub fn in_range(low: i32, high: i32, x: i32) -> bool
     ensures { result ≡ within low high x }
 {
-    (low <= x) & (x <= high)
+    (low..=high).contains(&x)
 }
 
 // The number, 0 where it is below zero.
-pub fn wide_natural(a: i64) -> u64
-    ensures { result ≡ up a }
-{
-    if a < 0 {
-        return 0;
-    }
-    a as u64
-}
-
-// The same of a figure.
 pub fn natural(a: i32) -> u64
     ensures { result ≡ up a }
 {
-    wide_natural(a as i64)
+    u64::try_from(a).unwrap_or(0)
 }
 
 // The whole product of two numbers.
 fn product(a: i32, b: i32) -> i64
     ensures { result ≡ a *ℤ b }
 {
-    (a as i64) * (b as i64)
+    i64::from(a) * i64::from(b)
 }
 
 fn square(a: i32) -> u64

@@ -4,7 +4,7 @@ ghost use Rattle.std.specs.Int.Signed.{le_z};
 ghost use Rattle.figures.specs.Rules.{least_gap, distance_kept, heights_kept, soft_kept, angles_kept, unscreened_kept, screened_kept, screen_kept, range_check, readings_kept, trains_kept, train_check, lowest_number, range_lines, train_lines};
 ghost use Rattle.figures.specs.Refusal.{check_number};
 
-use crate::{Check, Refusal, Segment, Train, in_range, is_unscreened, unless};
+use crate::{Refusal, Segment, Train, in_range, is_unscreened};
 
 // Lengths in centimetres.
 const LEAST_DISTANCE: i32 = 1000;
@@ -91,13 +91,7 @@ fn unscreened_kept(s: Segment) -> bool
 fn plus_gap(a: i32) -> i64
     ensures { result ≡ a +ℤ pos least_gap }
 {
-    (a as i64) + (LEAST_GAP as i64)
-}
-
-fn wide(a: i32) -> i64
-    ensures { result ≡ a }
-{
-    a as i64
+    i64::from(a) + i64::from(LEAST_GAP)
 }
 
 // The screen stands off source and window.
@@ -105,7 +99,7 @@ fn stands_between(s: Segment) -> bool
     ensures { result ≡ (le_z (pos least_gap) s.setback && le_z (s.setback +ℤ pos least_gap) s.distance) }
 {
     let near = LEAST_GAP <= s.setback;
-    near & (plus_gap(s.setback) <= wide(s.distance))
+    near & (plus_gap(s.setback) <= i64::from(s.distance))
 }
 
 fn screened_kept(s: Segment, most: i32) -> bool
@@ -117,6 +111,7 @@ fn screened_kept(s: Segment, most: i32) -> bool
                 & (in_range(0, HIGHEST_WALL, s.wall) & in_range(0, 0, s.ballast))))
 }
 
+// The screen stays the number that was typed: a type of three kinds would ask more of whoever fills in a segment.
 fn screen_kept(s: Segment) -> bool
     ensures { result ≡ screen_kept s }
 {
@@ -127,27 +122,27 @@ fn screen_kept(s: Segment) -> bool
 }
 
 // The first of lines 1 to 5 that a segment does not keep. Line 6 needs lengths, and lines 1 to 5 for them.
-pub fn range_check(s: Segment) -> Check
+#[tactic(auto, unfolding(crate::specs::Rules::range_check, crate::specs::Rules::ranges_then, crate::specs::Rules::range_lines, crate::specs::Rules::lowest_number, crate::specs::Refusal::unless, crate::specs::Refusal::check_number, crate::specs::Refusal::number_of))]
+pub fn range_check(s: Segment) -> Result<(), Refusal>
     ensures is { result ≡ range_check s }
     ensures number { check_number result ≡ lowest_number (range_lines s) }
 {
-    unless(
-        distance_kept(s),
-        Refusal::Distance,
-        unless(
-            heights_kept(s),
-            Refusal::Height,
-            unless(
-                soft_kept(s),
-                Refusal::Ground,
-                unless(
-                    angles_kept(s),
-                    Refusal::Angle,
-                    unless(screen_kept(s), Refusal::Screen, Check::Accepted),
-                ),
-            ),
-        ),
-    )
+    if !distance_kept(s) {
+        return Err(Refusal::Distance);
+    }
+    if !heights_kept(s) {
+        return Err(Refusal::Height);
+    }
+    if !soft_kept(s) {
+        return Err(Refusal::Ground);
+    }
+    if !angles_kept(s) {
+        return Err(Refusal::Angle);
+    }
+    if !screen_kept(s) {
+        return Err(Refusal::Screen);
+    }
+    Ok(())
 }
 
 // Line 7.
@@ -166,21 +161,22 @@ fn trains_kept(t: Train) -> bool
 }
 
 // The first line that a train entry does not keep.
-pub fn train_check(t: Train) -> Check
+#[tactic(auto, unfolding(crate::specs::Rules::train_check, crate::specs::Rules::train_lines, crate::specs::Rules::row_kept, crate::specs::Rules::speed_kept, crate::specs::Rules::vehicles_kept, crate::specs::Rules::lowest_number, crate::specs::Refusal::unless, crate::specs::Refusal::check_number, crate::specs::Refusal::number_of))]
+pub fn train_check(t: Train) -> Result<(), Refusal>
     ensures is { result ≡ train_check t }
     ensures number { check_number result ≡ lowest_number (train_lines t) }
 {
-    unless(
-        in_range(1, MOST_ROW, t.row),
-        Refusal::Row,
-        unless(
-            in_range(LEAST_SPEED, MOST_SPEED, t.speed),
-            Refusal::Speed,
-            unless(
-                in_range(1, MOST_VEHICLES, t.vehicles),
-                Refusal::Vehicles,
-                unless(trains_kept(t), Refusal::Trains, Check::Accepted),
-            ),
-        ),
-    )
+    if !in_range(1, MOST_ROW, t.row) {
+        return Err(Refusal::Row);
+    }
+    if !in_range(LEAST_SPEED, MOST_SPEED, t.speed) {
+        return Err(Refusal::Speed);
+    }
+    if !in_range(1, MOST_VEHICLES, t.vehicles) {
+        return Err(Refusal::Vehicles);
+    }
+    if !trains_kept(t) {
+        return Err(Refusal::Trains);
+    }
+    Ok(())
 }

@@ -1,8 +1,41 @@
 -- Laws of the parts of a list of bytes: where the first part ends, and what comes after it.
 -- Assumes nothing.
-use Rattle.std.proofs.Common.{◌≡◌, ℕ, suc, ◌+◌, ◌<◌, ◌≤◌, Bool, true, false, cond, eqb, ltb, List, [], ◌∷◌, length, get_or, take, drop, refl, ap, ◌∙◌, add-one, arith, length-drop, drop_of_length-le, drop-cons, lt-ltb, eq-eqb, ne_eqb}
-use lib.Dec.{leb-suc-suc}
-use Rattle.lines.specs.Bytes.{until, split, onto}
+use Rattle.std.proofs.Common.{◌≡◌, ℕ, zero, suc, ◌+◌, ◌-◌, ◌<◌, ◌≤◌, Bool, true, false, cond, eqb, List, [], ◌∷◌, length, get_or, take, drop, Option, None, Some, refl, ap, add-one, arith, length-drop, drop_of_length-le, drop-cons, eq-eqb, ne_eqb}
+use Rattle.std.proofs.Math.Seq.{take_all}
+use Rattle.memchr.specs.Find.{Passes, is_byte}
+use Rattle.lines.specs.Bytes.{until, past, onto, split}
+
+-- ---- the first separator
+
+-- it stands at k
+pub first_at : (sep : ℕ) (s : List ℕ) (k : ℕ) → k < length s → ((j : ℕ) → 0 ≤ j → j < k → ¬ Passes (is_byte sep) s j) → Passes (is_byte sep) s k
+    → (until sep s ≡ take k s) × (past sep s ≡ Some (drop (suc k) s))
+unfolding until past
+first_at sep [] k h n e = absurd (omega arith)
+first_at sep (b ∷ bs) zero h n e = rw e (refl, refl)
+first_at sep (b ∷ bs) (suc k) h n e =
+    go (first_at sep bs k (omega arith) (λ j l m. n (suc j) (omega arith) (omega arith)) e) (eqb b sep) refl
+  where
+    go : (until sep bs ≡ take k bs) × (past sep bs ≡ Some (drop (suc k) bs)) → (t : Bool) → eqb b sep ≡ t
+        → (cond t [] (b ∷ until sep bs) ≡ b ∷ take k bs) × (cond t (Some bs) (past sep bs) ≡ Some (drop (suc k) bs))
+    go rest true q = absurd (n 0 (omega arith) (omega arith) q)
+    go rest false q = (ap {B = List ℕ} (λ r. b ∷ r) rest.0, rest.1)
+
+-- there is none
+pub none_at : (sep : ℕ) (s : List ℕ) → ((j : ℕ) → 0 ≤ j → j < length s → ¬ Passes (is_byte sep) s j) → (s ≡ until sep s) × (None ≡ past sep s)
+unfolding until past
+none_at sep [] n = (refl, refl)
+none_at sep (b ∷ bs) n = go (none_at sep bs (λ j l m. n (suc j) (omega arith) (omega arith))) (eqb b sep) refl
+  where
+    go : (bs ≡ until sep bs) × (None ≡ past sep bs) → (t : Bool) → eqb b sep ≡ t → (b ∷ bs ≡ cond t [] (b ∷ until sep bs)) × (None ≡ cond t (Some bs) (past sep bs))
+    go rest true q = absurd (n 0 (omega arith) (omega arith) q)
+    go rest false q = (ap {B = List ℕ} (λ r. b ∷ r) rest.0, rest.1)
+
+-- the bytes behind a place, as a slice up to the end has them
+pub behind : (s : List ℕ) (k : ℕ) → take (length s - k) (drop k s) ≡ drop k s
+behind s k = take_all (length s - k) (drop k s) (omega (arith, length-drop k s))
+
+-- ---- from a place on
 
 module _ (sep : ℕ) (s : List ℕ) (i : ℕ) where
   -- at a separator
@@ -10,67 +43,41 @@ module _ (sep : ℕ) (s : List ℕ) (i : ℕ) where
   unfolding until
   until_stop h e = rw (drop-cons s i 0, eq-eqb (get_or s i 0) sep e)
 
+  pub past_stop : i < length s → get_or s i 0 ≡ sep → past sep (drop i s) ≡ Some (drop (i + 1) s)
+  unfolding past
+  past_stop h e = rw (add-one, drop-cons s i 0, eq-eqb (get_or s i 0) sep e)
+
   pub until_end : length s ≤ i → until sep (drop i s) ≡ []
   unfolding until
   until_end h = rw (drop_of_length-le s h)
 
-  pub until_skip : i < length s → (get_or s i 0 ≡ sep → ⊥) → i + length (until sep (drop i s)) ≡ i + 1 + length (until sep (drop (i + 1) s))
+  pub past_end : length s ≤ i → past sep (drop i s) ≡ None
+  unfolding past
+  past_end h = rw (drop_of_length-le s h)
+
+  pub until_skip : i < length s → (get_or s i 0 ≡ sep → ⊥) → until sep (drop i s) ≡ get_or s i 0 ∷ until sep (drop (i + 1) s)
   unfolding until
-  until_skip h n = rw (add-one, drop-cons s i 0, ne_eqb (get_or s i 0) sep n) (omega arith)
+  until_skip h n = rw (add-one, drop-cons s i 0, ne_eqb (get_or s i 0) sep n)
 
--- a search for the separator from `at` on has come to `i` without meeting it
-pub record Sought (sep : ℕ) (s : List ℕ) (at i : ℕ) : Type 0 where
-  pub within : i ≤ length s
-  pub so : at + length (until sep (drop at s)) ≡ i + length (until sep (drop i s))
+  pub past_skip : i < length s → (get_or s i 0 ≡ sep → ⊥) → past sep (drop i s) ≡ past sep (drop (i + 1) s)
+  unfolding past
+  past_skip h n = rw (add-one, drop-cons s i 0, ne_eqb (get_or s i 0) sep n)
 
-pub sought_none : (sep : ℕ) (s : List ℕ) {at : ℕ} → at ≤ length s → Sought sep s at at
-sought_none sep s h = record { within = h; so = refl }
+-- ---- the parts
 
-module _ {sep : ℕ} {s : List ℕ} {at i : ℕ} (w : Sought sep s at i) where
-  pub sought_more : i < length s → (get_or s i 0 ≡ sep → ⊥) → {j : ℕ} → j ≡ i + 1 → Sought sep s at j
-  sought_more h n e = rw e (record { within = omega arith; so = w.so ∙ until_skip sep s i h n })
+-- those behind a separator; none where there is none
+abbrev pub parts_of : ℕ → Option (List ℕ) → List (List ℕ)
+parts_of sep None = []
+parts_of sep (Some bs) = split sep bs
 
-  pub sought_here : i < length s → get_or s i 0 ≡ sep → i ≡ at + length (until sep (drop at s))
-  sought_here h e = omega (arith, w.so, ap length (until_stop sep s i h e))
-
-  pub sought_end : length s ≤ i → i ≡ at + length (until sep (drop at s))
-  sought_end h = omega (arith, w.so, ap length (until_end sep s i h))
-
-pub until_le : (sep : ℕ) (l : List ℕ) → length (until sep l) ≤ length l
-unfolding until
-until_le sep [] = omega arith
-until_le sep (b ∷ bs) = go (until_le sep bs) (eqb b sep)
-  where
-    go : length (until sep bs) ≤ length bs → (t : Bool) → length (cond t [] (b ∷ until sep bs)) ≤ suc (length bs)
-    go h true = omega arith
-    go h false = omega arith
-
-pub take-until : (sep : ℕ) (l : List ℕ) → take (length (until sep l)) l ≡ until sep l
-unfolding until
-take-until sep [] = refl
-take-until sep (b ∷ bs) = go (take-until sep bs) (eqb b sep)
-  where
-    go : take (length (until sep bs)) bs ≡ until sep bs → (t : Bool)
-        → take (length (cond t [] (b ∷ until sep bs))) (b ∷ bs) ≡ cond t [] (b ∷ until sep bs)
-    go h true = refl
-    go h false = ap {B = List ℕ} (λ r. b ∷ r) h
-
--- the end of the first part lies in the whole
-pub until-within : (sep : ℕ) (s : List ℕ) (i : ℕ) → i ≤ length s → i + length (until sep (drop i s)) ≤ length s
-until-within sep s i h = omega (arith, until_le sep (drop i s), length-drop i s)
-
--- the parts of what comes after the first part
-abbrev pub parts_after : ℕ → List ℕ → List (List ℕ)
-parts_after sep l = cond (ltb (length (until sep l)) (length l)) (split sep (drop (suc (length (until sep l))) l)) []
-
-pub split_first : (sep : ℕ) (l : List ℕ) → split sep l ≡ until sep l ∷ parts_after sep l
-unfolding split until onto
+pub split_first : (sep : ℕ) (l : List ℕ) → split sep l ≡ until sep l ∷ parts_of sep (past sep l)
+unfolding split until past onto
 split_first sep [] = refl
 split_first sep (b ∷ bs) = go (split_first sep bs) (eqb b sep)
   where
-    go : split sep bs ≡ until sep bs ∷ parts_after sep bs → (t : Bool)
+    go : split sep bs ≡ until sep bs ∷ parts_of sep (past sep bs) → (t : Bool)
         → cond t ([] ∷ split sep bs) (onto b (split sep bs))
         ≡ cond t [] (b ∷ until sep bs)
-        ∷ cond (ltb (length (cond t [] (b ∷ until sep bs))) (suc (length bs))) (split sep (drop (suc (length (cond t [] (b ∷ until sep bs)))) (b ∷ bs))) []
-    go h true = rw (lt-ltb 0 (suc (length bs)) (omega arith))
-    go h false = rw (h, leb-suc-suc (suc (length (until sep bs))) (length bs))
+        ∷ parts_of sep (cond t (Some bs) (past sep bs))
+    go h true = refl
+    go h false = rw h

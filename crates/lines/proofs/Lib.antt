@@ -1,7 +1,5 @@
-pub mod Cases
 pub mod Bytes
 pub mod Digits
 pub mod Values
-pub mod Positions
-pub mod Progress
+pub mod Counted
 pub mod Entries

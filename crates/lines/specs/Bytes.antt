@@ -1,6 +1,6 @@
 -- Parts of a list of bytes between separators: words between spaces (32), lines between line feeds (10).
 -- Assumes nothing.
-use Rattle.std.specs.Prelude.{ℕ, cond, List, [], ◌∷◌, ◌==◌}
+use Rattle.std.specs.Prelude.{ℕ, cond, List, [], ◌∷◌, ◌==◌, Option, None, Some}
 
 -- the bytes before the first separator; all of them where there is none
 unfoldable pub until : ℕ → List ℕ → List ℕ
@@ -17,3 +17,8 @@ unfoldable pub split : ℕ → List ℕ → List (List ℕ)
 unfolding onto
 split sep [] = [] ∷ []
 split sep (b ∷ bs) = cond (b == sep) ([] ∷ split sep bs) (onto b (split sep bs))
+
+-- what stands behind the first separator; none where there is none
+unfoldable pub past : ℕ → List ℕ → Option (List ℕ)
+past sep [] = None
+past sep (b ∷ bs) = cond (b == sep) (Some bs) (past sep bs)

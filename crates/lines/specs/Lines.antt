@@ -1,22 +1,19 @@
--- The line of a segment, 15 numbers (02, L1), and of a train entry, 5 numbers (01, "The study"); of any other count or form it is malformed.
+-- The line of a segment, 15 numbers (02, L1), and of a train entry, 5 numbers (01, "The study"); none where it has another count or form.
 -- Assumes nothing.
-use Rattle.std.specs.Prelude.{ℕ, List, ℤ, pos, slice_index_or}
-use Rattle.std.proofs.Math.Option.{Option, none, some}
+use Rattle.std.specs.Prelude.{ℕ, List, ℤ, pos, Option, None, Some, slice_index_or}
+use Rattle.figures.specs.declared.Segment.{Segment}
+use Rattle.figures.specs.declared.Train.{Train}
 use Rattle.lines.specs.Numbers.{numbers_of, exactly}
-use Rattle.lines.specs.declared.fields.SegmentLine.{SegmentLine}
-use Rattle.lines.specs.declared.fields.SegmentLine.TheVariants as S
-use Rattle.lines.specs.declared.fields.TrainLine.{TrainLine}
-use Rattle.lines.specs.declared.fields.TrainLine.TheVariants as T
 
 -- the number at a place, from 0
 abbrev pub nth : List ℤ → ℕ → ℤ
 nth vs k = slice_index_or vs k (pos 0)
 
 -- a segment's fields in 01's order, the far wall last (L1)
-abbrev pub segment_as : Option (List ℤ) → SegmentLine
-segment_as none = S.Malformed
-segment_as (some vs) =
-    S.Fields
+abbrev pub segment_as : Option (List ℤ) → Option Segment
+segment_as None = None
+segment_as (Some vs) =
+    Some
     (record {
       distance = nth vs 0;
       height = nth vs 1;
@@ -35,14 +32,14 @@ segment_as (some vs) =
       wall = nth vs 14;
     })
 
-unfoldable pub segment_of : List ℕ → SegmentLine
+unfoldable pub segment_of : List ℕ → Option Segment
 segment_of line = segment_as (exactly 15 (numbers_of line))
 
 -- a train entry's fields in 01's order
-abbrev pub train_as : Option (List ℤ) → TrainLine
-train_as none = T.Malformed
-train_as (some vs) =
-    T.Fields (record { row = nth vs 0; speed = nth vs 1; vehicles = nth vs 2; day = nth vs 3; night = nth vs 4 })
+abbrev pub train_as : Option (List ℤ) → Option Train
+train_as None = None
+train_as (Some vs) =
+    Some (record { row = nth vs 0; speed = nth vs 1; vehicles = nth vs 2; day = nth vs 3; night = nth vs 4 })
 
-unfoldable pub train_of : List ℕ → TrainLine
+unfoldable pub train_of : List ℕ → Option Train
 train_of line = train_as (exactly 5 (numbers_of line))

@@ -1,79 +1,58 @@
 // The contents, a text's first line: the segment count, then each segment's entry count.
-ghost use Rattle.std.specs.Prelude.{length};
-ghost use Rattle.lines.specs.Contents.{limits, ContentsRead};
+ghost use Rattle.std.specs.Prelude.{◌≡◌};
+ghost use Rattle.lines.specs.Contents.{limits, contents_of, counts_of};
 ghost use Rattle.lines.specs.Private.{Counted};
 
-use crate::numbers::{Number, number_at};
+use crate::numbers::Numbers;
+use arrayvec::ArrayVec;
 use figures::Refusal;
 
-// The sum of the entry counts so far, or that they are out of range.
-#[derive(Clone, Copy)]
-enum Sum {
-    Within(usize),
-    Exceeded,
-}
-
-// How many entry counts there are, the first of the lent ones, or why the line is refused.
-#[derive(Clone, Copy)]
-pub enum Contents {
-    Counts(usize),
-    Refused(Refusal),
-}
-
-// One more entry count after n of them. It is kept where it and the sum are in range.
-fn with_count(sum: Sum, n: usize, v: i32, entries: usize, counts: &mut [usize]) -> Sum
-    ensures { Counted (limits (length counts.old) entries) n v counts.old sum counts.new result }
+// The sum of the entry counts with one more, which is kept; none where any is out of range, or the sum.
+fn with_count<const N: usize>(
+    sum: Option<usize>,
+    value: i32,
+    entries: usize,
+    counts: &mut ArrayVec<usize, N>,
+) -> Option<usize>
+    ensures { Counted (limits N entries) value counts.old.items sum counts.new.items result }
 {
-    let Sum::Within(before) = sum else {
-        return Sum::Exceeded;
+    let before = sum?;
+    let Ok(count) = usize::try_from(value) else {
+        return None;
     };
-    if v < 0 {
-        return Sum::Exceeded;
+    if counts.is_full() || entries < count || entries - count < before {
+        return None;
     }
-    let count = v as usize;
-    if counts.len() <= n {
-        return Sum::Exceeded;
-    }
-    if entries < count {
-        return Sum::Exceeded;
-    }
-    if entries - count < before {
-        return Sum::Exceeded;
-    }
-    counts[n] = count;
-    Sum::Within(before + count)
+    counts.push(count);
+    Some(before + count)
 }
 
-// The contents line, of at most so many entries and as many segments as counts are lent. Every number's form comes before any range, so a count out of range is told at the line's end.
-pub fn contents_of(line: &[u8], entries: usize, counts: &mut [usize]) -> Contents
-    ensures { ContentsRead entries line.now counts.old counts.new result }
+// The entry counts of the contents line, at most so many segments and entries. Every number's form comes before any range, so a count out of range is told at the line's end.
+pub fn contents_of<const N: usize>(
+    line: &[u8],
+    entries: usize,
+) -> Result<ArrayVec<usize, N>, Refusal>
+    ensures { counts_of result ≡ contents_of (limits N entries) line.now }
 {
-    let Number::Value(first, after) = number_at(line, 0) else {
-        return Contents::Refused(Refusal::Form);
+    let mut numbers = Numbers::new(line);
+    let Some(first) = numbers.next_number() else {
+        return Err(Refusal::Form);
     };
-    if first < 0 {
-        return Contents::Refused(Refusal::Form);
-    }
-    let announced = first as usize;
-    let mut sum = Sum::Within(0);
-    let mut at = after;
-    let mut n = 0;
-    while at <= line.len() {
-        let Number::Value(v, next) = number_at(line, at) else {
-            return Contents::Refused(Refusal::Form);
-        };
-        sum = with_count(sum, n, v, entries, counts);
-        at = next;
-        n += 1;
-    }
-    if announced != n {
-        return Contents::Refused(Refusal::Form);
-    }
-    let Sum::Within(total) = sum else {
-        return Contents::Refused(Refusal::Contents);
+    let Ok(announced) = usize::try_from(first) else {
+        return Err(Refusal::Form);
     };
-    if total == 0 {
-        return Contents::Refused(Refusal::Contents);
+    let mut counts = ArrayVec::new();
+    let mut sum = Some(0);
+    let mut others = 0;
+    while let Some(value) = numbers.next_number() {
+        sum = with_count(sum, value, entries, &mut counts);
+        others += 1;
     }
-    Contents::Counts(n)
+    if !numbers.is_empty() || announced != others {
+        return Err(Refusal::Form);
+    }
+    if sum.unwrap_or(0) == 0 {
+        return Err(Refusal::Contents);
+    }
+    Ok(counts)
 }

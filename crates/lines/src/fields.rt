@@ -2,120 +2,103 @@
 ghost use Rattle.std.specs.Prelude.{◌≡◌};
 ghost use Rattle.lines.specs.Lines.{segment_of, train_of};
 
-use crate::numbers::{Number, number_at};
+use crate::numbers::Numbers;
 use figures::{Segment, Train};
-use study::{no_segment, no_train};
 
-#[derive(Clone, Copy)]
-pub enum SegmentLine {
-    Fields(Segment),
-    Malformed,
-}
-
-#[derive(Clone, Copy)]
-pub enum TrainLine {
-    Fields(Train),
-    Malformed,
-}
-
-// The 15 numbers of a segment's line.
-pub fn segment_of(line: &[u8]) -> SegmentLine
+// The 15 numbers of a segment's line. Not one function with the train's: each number goes to a field of its own, by name.
+pub fn segment_of(line: &[u8]) -> Option<Segment>
     ensures { result ≡ segment_of line.now }
 {
-    let mut segment = no_segment();
-    let Number::Value(distance, at) = number_at(line, 0) else {
-        return SegmentLine::Malformed;
+    let mut numbers = Numbers::new(line);
+    let mut segment = Segment::default();
+    let Some(distance) = numbers.next_number() else {
+        return None;
     };
     segment.distance = distance;
-    let Number::Value(height, at) = number_at(line, at) else {
-        return SegmentLine::Malformed;
+    let Some(height) = numbers.next_number() else {
+        return None;
     };
     segment.height = height;
-    let Number::Value(mean, at) = number_at(line, at) else {
-        return SegmentLine::Malformed;
+    let Some(mean) = numbers.next_number() else {
+        return None;
     };
     segment.mean = mean;
-    let Number::Value(soft, at) = number_at(line, at) else {
-        return SegmentLine::Malformed;
+    let Some(soft) = numbers.next_number() else {
+        return None;
     };
     segment.soft = soft;
-    let Number::Value(view, at) = number_at(line, at) else {
-        return SegmentLine::Malformed;
+    let Some(view) = numbers.next_number() else {
+        return None;
     };
     segment.view = view;
-    let Number::Value(doubled, at) = number_at(line, at) else {
-        return SegmentLine::Malformed;
+    let Some(doubled) = numbers.next_number() else {
+        return None;
     };
     segment.doubled = doubled;
-    let Number::Value(screen, at) = number_at(line, at) else {
-        return SegmentLine::Malformed;
+    let Some(screen) = numbers.next_number() else {
+        return None;
     };
     segment.screen = screen;
-    let Number::Value(setback, at) = number_at(line, at) else {
-        return SegmentLine::Malformed;
+    let Some(setback) = numbers.next_number() else {
+        return None;
     };
     segment.setback = setback;
-    let Number::Value(top, at) = number_at(line, at) else {
-        return SegmentLine::Malformed;
+    let Some(top) = numbers.next_number() else {
+        return None;
     };
     segment.top = top;
-    let Number::Value(chart, at) = number_at(line, at) else {
-        return SegmentLine::Malformed;
+    let Some(chart) = numbers.next_number() else {
+        return None;
     };
     segment.chart = chart;
-    let Number::Value(track, at) = number_at(line, at) else {
-        return SegmentLine::Malformed;
+    let Some(track) = numbers.next_number() else {
+        return None;
     };
     segment.track = track;
-    let Number::Value(ballast, at) = number_at(line, at) else {
-        return SegmentLine::Malformed;
+    let Some(ballast) = numbers.next_number() else {
+        return None;
     };
     segment.ballast = ballast;
-    let Number::Value(facade, at) = number_at(line, at) else {
-        return SegmentLine::Malformed;
+    let Some(facade) = numbers.next_number() else {
+        return None;
     };
     segment.facade = facade;
-    let Number::Value(opposite, at) = number_at(line, at) else {
-        return SegmentLine::Malformed;
+    let Some(opposite) = numbers.next_number() else {
+        return None;
     };
     segment.opposite = opposite;
-    let Number::Value(wall, after_wall) = number_at(line, at) else {
-        return SegmentLine::Malformed;
+    let Some(wall) = numbers.next_number() else {
+        return None;
     };
     segment.wall = wall;
-    if after_wall <= line.len() {
-        return SegmentLine::Malformed;
-    }
-    SegmentLine::Fields(segment)
+    numbers.is_empty().then_some(segment)
 }
 
 // The 5 numbers of a train entry's line.
-pub fn train_of(line: &[u8]) -> TrainLine
+pub fn train_of(line: &[u8]) -> Option<Train>
     ensures { result ≡ train_of line.now }
 {
-    let mut train = no_train();
-    let Number::Value(row, at) = number_at(line, 0) else {
-        return TrainLine::Malformed;
+    let mut numbers = Numbers::new(line);
+    let mut train = Train::default();
+    let Some(row) = numbers.next_number() else {
+        return None;
     };
     train.row = row;
-    let Number::Value(speed, at) = number_at(line, at) else {
-        return TrainLine::Malformed;
+    let Some(speed) = numbers.next_number() else {
+        return None;
     };
     train.speed = speed;
-    let Number::Value(vehicles, at) = number_at(line, at) else {
-        return TrainLine::Malformed;
+    let Some(vehicles) = numbers.next_number() else {
+        return None;
     };
     train.vehicles = vehicles;
-    let Number::Value(day, at) = number_at(line, at) else {
-        return TrainLine::Malformed;
+    let Some(day) = numbers.next_number() else {
+        return None;
     };
     train.day = day;
-    let Number::Value(night, after_night) = number_at(line, at) else {
-        return TrainLine::Malformed;
+    let Some(night) = numbers.next_number() else {
+        return None;
     };
     train.night = night;
-    if after_night <= line.len() {
-        return TrainLine::Malformed;
-    }
-    TrainLine::Fields(train)
+    numbers.is_empty().then_some(train)
 }

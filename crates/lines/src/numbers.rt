@@ -1,87 +1,92 @@
-// A number of a study text: one to five digits, a minus if below zero, no spare leading zero, no minus zero.
-ghost use Rattle.std.specs.Prelude.{◌≡◌, ◌<◌, length, slice_index};
-ghost use Rattle.lines.specs.Numbers.{number_at};
+// The numbers of a line of a study text: one to five digits, a minus if below zero, no spare leading zero, no minus zero.
+ghost use Rattle.std.specs.Prelude.{◌≡◌, ◌↔◌, ◌<◌, [], ◌∷◌, List, Option, ℤ, IsTrue, MatchOption, Some, length, slice_index, option_copied};
+ghost use Rattle.lines.specs.Numbers.{values_of, values_left, first_number, after_number};
 
-// The number at a position of a line with the position after the space that ends it, or none of the right form.
-#[derive(Clone, Copy)]
-pub enum Number {
-    Value(i32, usize),
-    Malformed,
+use std::marker::Model;
+
+// What is left to read of a line's numbers: the bytes behind the space after the last one read, none behind the line's last.
+#[derive(Drop)]
+pub struct Numbers<'a> {
+    rest: Option<&'a [u8]>,
 }
 
-// A number above zero, by its digits.
-fn positive_at(line: &[u8], at: usize) -> Number
-    requires { (at < length line.now) × (48 < slice_index line.now at) }
-    ensures { result ≡ number_at line.now at }
+impl<'a> Model for Numbers<'a> {
+    ghost Value = { List (Option ℤ) };
+
+    ghost view = { λ n. values_left (option_copied n.rest) };
+}
+
+// A number above zero at the front of some words, by its digits, and the words after it.
+#[inline(always)]
+fn above_zero(words: &[u8]) -> Option<(i32, Option<&[u8]>)>
+    requires { (0 < length words.now) × (48 < slice_index words.now 0) }
+    ensures { MatchOption result (first_number (values_of words.now) ≡ None) (λ r. values_of words.now ≡ Some r.0 ∷ values_left (option_copied r.1)) }
 {
-    let mut v: u32 = 0;
-    let mut i = at;
-    while i < line.len() {
-        let b = line[i];
-        let digit = std::num::wrapping_sub_u8(b, b'0');
+    let mut value: u32 = 0;
+    for (i, byte) in words.iter().enumerate() {
+        let digit = byte.wrapping_sub(b'0');
         if 9 < digit {
-            if b == b' ' {
-                return Number::Value(v as i32, i + 1);
+            if *byte == b' ' {
+                return Some((value as i32, Some(&words[i + 1..])));
             }
-            return Number::Malformed;
+            return None;
         }
-        if at + 5 <= i {
-            return Number::Malformed;
+        if 5 <= i {
+            return None;
         }
-        v = v * 10 + digit as u32;
-        i += 1;
+        value = value * 10 + u32::from(digit);
     }
-    Number::Value(v as i32, i + 1)
+    Some((value as i32, None))
 }
 
-// The number zero: nothing follows its digit.
-fn zero_at(line: &[u8], at: usize) -> Number
-    requires { (at < length line.now) × (slice_index line.now at ≡ 48) }
-    ensures { result ≡ number_at line.now at }
+// The number at the front of some words, by the bytes that it begins with, and the words after it.
+#[inline(always)]
+fn number_in_front(words: &[u8]) -> Option<(i32, Option<&[u8]>)>
+    ensures { MatchOption result (first_number (values_of words.now) ≡ None) (λ r. values_of words.now ≡ Some r.0 ∷ values_left (option_copied r.1)) }
 {
-    let end = at + 1;
-    if end < line.len() {
-        if line[end] != b' ' {
-            return Number::Malformed;
+    let (first, tail) = words.split_first()?;
+    if b'0' < *first {
+        return above_zero(words);
+    }
+    match *first {
+        b'0' => match tail {
+            [] => Some((0, None)),
+            [b' ', rest @ ..] => Some((0, Some(rest))),
+            _ => None,
+        },
+        b'-' => {
+            if *tail.first()? <= b'0' {
+                return None;
+            }
+            let (value, rest) = above_zero(tail)?;
+            Some((-value, rest))
         }
+        _ => None,
     }
-    Number::Value(0, end + 1)
 }
 
-// A number below zero: a minus before a number above zero.
-fn negative_at(line: &[u8], at: usize) -> Number
-    requires { (at < length line.now) × (slice_index line.now at ≡ 45) }
-    ensures { result ≡ number_at line.now at }
-{
-    let start = at + 1;
-    if line.len() <= start {
-        return Number::Malformed;
+impl<'a> Numbers<'a> {
+    pub fn new(line: &'a [u8]) -> Self
+        ensures { result ≡ values_of line.now }
+    {
+        Numbers { rest: Some(line) }
     }
-    if line[start] <= b'0' {
-        return Number::Malformed;
-    }
-    let Number::Value(v, next) = positive_at(line, start) else {
-        return Number::Malformed;
-    };
-    Number::Value(0 - v, next)
-}
 
-// The number that starts at a position of a line, and the position after the space that ends it.
-pub fn number_at(line: &[u8], at: usize) -> Number
-    ensures { result ≡ number_at line.now at }
-{
-    if line.len() <= at {
-        return Number::Malformed;
+    // Whether all are read.
+    pub fn is_empty(&self) -> bool
+        ensures { IsTrue result ↔ (self.now ≡ []) }
+    {
+        self.rest.is_none()
     }
-    let first = line[at];
-    if b'0' < first {
-        return positive_at(line, at);
+
+    // The next one, or none where there is none or the next word is no number: then nothing is passed.
+    #[inline(always)]
+    pub fn next_number(&mut self) -> Option<i32>
+        ensures number { result ≡ first_number self.old }
+        ensures left { self.new ≡ after_number self.old }
+    {
+        let (value, rest) = number_in_front(self.rest?)?;
+        self.rest = rest;
+        Some(value)
     }
-    if first == b'0' {
-        return zero_at(line, at);
-    }
-    if first == b'-' {
-        return negative_at(line, at);
-    }
-    Number::Malformed
 }

@@ -7,9 +7,7 @@ use native.Mathlib.Omega.{arith}
 use lib.ListN.{length, length-append, length-map}
 use Rattle.figures.specs.declared.Segment.{Segment}
 use Rattle.figures.specs.declared.Train.{Train}
-use Rattle.figures.specs.declared.Check.{Check}
-use Rattle.figures.specs.declared.Check.TheVariants.{Accepted, Refused}
-use Rattle.figures.specs.Refusal.{first_refused}
+use Rattle.figures.specs.Refusal.{first_refused, Check}
 use Rattle.figures.specs.Rules.{train_check}
 use Rattle.propagation.specs.Check.{segment_check}
 use Rattle.study.specs.declared.Entry.{Entry}
@@ -17,8 +15,9 @@ use Rattle.study.specs.Plan.{Plan, empty_plan}
 use Rattle.study.specs.Add.{Limits, segment_answer, train_answer}
 use Rattle.study.specs.Run.{Addition, segment, train, kept, extend, extend_all}
 use Rattle.study.proofs.Additions.{segments_room, segment_taken, entries_room, train_taken}
-use Rattle.study.proofs.Plans.{check_of, kept_one, accepted_only, refused_stays, by_one}
+use Rattle.study.proofs.Plans.{answer_to, kept_one, accepted_only, refused_stays, by_one}
 use Rattle.merging.specs.Joined.{raised_by, joined}
+use Rattle.std.specs.Prelude.{Ok, Err}
 
 -- ---- sizes
 
@@ -42,8 +41,8 @@ record Grows (q r : Plan) : Type 0 where
 
 grows_kept : (c : Check) {q r : Plan} → Grows q r → Grows q (kept c q r)
 unfolding kept
-grows_kept Accepted g = g
-grows_kept (Refused why) g = record { segments = omega arith; entries = omega arith }
+grows_kept (Ok _) g = g
+grows_kept (Err why) g = record { segments = omega arith; entries = omega arith }
 
 grows_one : (l : Limits) (q : Plan) (a : Addition) → Grows q (extend l q a)
 unfolding extend
@@ -61,11 +60,11 @@ grows_all l (a ∷ rest) q =
 -- ---- one addition that the second plan accepts
 
 module _ (l : Limits) where
-  segment_fits : (count : ℕ) (s : Segment) → count < l.segments → segment_check s ≡ Accepted → segment_answer l count s ≡ Accepted
+  segment_fits : (count : ℕ) (s : Segment) → count < l.segments → segment_check s ≡ Ok tt → segment_answer l count s ≡ Ok tt
   unfolding segment_answer first_refused
   segment_fits count s h k = rw (segments_room l count h) k
 
-  train_fits : (count total : ℕ) (t : Train) → (count ≡ 0 → ⊥) → total < l.entries → train_check t ≡ Accepted → train_answer l count total t ≡ Accepted
+  train_fits : (count total : ℕ) (t : Train) → (count ≡ 0 → ⊥) → total < l.entries → train_check t ≡ Ok tt → train_answer l count total t ≡ Ok tt
   unfolding train_answer first_refused
   train_fits count total t some h k = rw (entries_room l count total some h) k
 
@@ -78,8 +77,8 @@ module _ (l : Limits) (p : Plan) where
   room_before : {q r : Plan} → Grows q r → Room r → Room q
   room_before g room = record { segments = omega arith; entries = omega arith }
 
-  still_accepted : (q : Plan) (a : Addition) → check_of l q a ≡ Accepted → Room (extend l q a) → check_of l (joined p q) a ≡ Accepted
-  unfolding extend kept check_of joined
+  still_accepted : (q : Plan) (a : Addition) → answer_to l q a ≡ Ok tt → Room (extend l q a) → answer_to l (joined p q) a ≡ Ok tt
+  unfolding extend kept answer_to joined
   still_accepted q (segment s) e room =
       let more : length p.segments + length (q.segments ++ (s ∷ [])) ≤ l.segments = rw e at room.segments in
       segment_fits l (length (p.segments ++ q.segments)) s (omega (arith, length-append p.segments q.segments, length-append q.segments (s ∷ [])))
@@ -94,8 +93,8 @@ module _ (l : Limits) (p : Plan) where
       train_fits l (length (p.segments ++ q.segments)) (length (p.entries ++ map raised q.entries)) t (λ z. taken.some (omega arith))
       (omega (arith, length-append q.entries (entry ∷ []), length-map q.entries raised)) taken.kept
 
-  join_one : (q : Plan) (a : Addition) → check_of l q a ≡ Accepted → check_of l (joined p q) a ≡ Accepted → extend l (joined p q) a ≡ joined p (extend l q a)
-  unfolding extend kept check_of joined raised_by
+  join_one : (q : Plan) (a : Addition) → answer_to l q a ≡ Ok tt → answer_to l (joined p q) a ≡ Ok tt → extend l (joined p q) a ≡ joined p (extend l q a)
+  unfolding extend kept answer_to joined raised_by
   join_one q (segment s) e f = rw (e, f) (simp append_assoc)
   join_one q (train t) e f =
       let some = (train_taken l (length q.segments) (length q.entries) t e).some in
@@ -108,7 +107,7 @@ module _ (l : Limits) (p : Plan) where
   join_all (a ∷ rest) q room =
       let r = extend l q a in
       let only = accepted_only l r rest in
-      by_one (λ (xs : List Addition). extend_all l (joined p q) xs ≡ joined p (extend_all l r rest)) (check_of l q a) a only
+      by_one (λ (xs : List Addition). extend_all l (joined p q) xs ≡ joined p (extend_all l r rest)) (answer_to l q a) a only
       (λ e. ap (λ (x : Plan). extend_all l x only) (join_one q a e (still_accepted q a e (room_before (grows_all l rest r) room))) ∙ join_all rest r room)
       (λ why e. subst (λ (x : Plan). extend_all l (joined p x) only ≡ joined p (extend_all l r rest)) (refused_stays l q a why e) (join_all rest r room))
 
@@ -119,7 +118,7 @@ module _ (l : Limits) (p : Plan) where
   none_refused_after (a ∷ rest) q room =
       let r = extend l q a in
       let only = accepted_only l r rest in
-      by_one (λ (xs : List Addition). accepted_only l (joined p q) xs ≡ xs) (check_of l q a) a only
+      by_one (λ (xs : List Addition). accepted_only l (joined p q) xs ≡ xs) (answer_to l q a) a only
       (λ e.
       let f = still_accepted q a e (room_before (grows_all l rest r) room) in
       rw (f, join_one q a e f) (ap (λ (xs : List Addition). a ∷ xs) (none_refused_after rest r room)))

@@ -2,15 +2,14 @@
 -- Assumes nothing.
 use mathlib.Core.Path.{◌≡◌, sym, ap, ◌∙◌, subst}
 use Rattle.figures.specs.Refusal.{number_of, check_number}
-use Rattle.study.specs.declared.Study.{Study}
-use Rattle.study.specs.Plan.{plan_of}
+use Rattle.study.specs.Plan.{Plan}
 use Rattle.study.specs.Add.{Limits, ours}
 use Rattle.study.specs.Run.{accepted}
 use Rattle.study.proofs.Plans.{accepted-held}
-use Rattle.study.proofs.Runs.{LimitsFit, run-accepted}
+use Rattle.study.proofs.Runs.{run-accepted}
 use Rattle.request.specs.Request.{AnsweredBy, Answered}
 use Rattle.request.specs.Accuracy.{Band, AccurateRuns, sharpest}
-use Rattle.request.proofs.Demand3.{ours_fit, demand_3, demand_3_sharp}
+use Rattle.request.proofs.Demand3.{demand_3, demand_3_sharp}
 use Rattle.merging.specs.Merge.{merge_check}
 use Rattle.merging.specs.Joined.{merged_plan}
 use Rattle.merging.specs.Laws.{MergeLaws, AccurateMerges, MergedDemand3}
@@ -19,9 +18,9 @@ use Rattle.merging.proofs.Merges.{merged_check, given_back, lists, is_run, is_ru
 use Rattle.merging.proofs.OwnLevels.{own_levels, own_fences}
 use Rattle.merging.proofs.OwnResults.{own_result, second_unheard, first_unheard}
 
-pub laws : (l : Limits) → LimitsFit l → MergeLaws l
+pub laws : (l : Limits) → MergeLaws l
 unfolding merge_check check_number number_of
-laws l fit =
+laws l =
     record {
       extra_segment = λ a b.
           (λ e. twenty_one l _ _ (sym (ap check_number (merged_check l a b)) ∙ e), λ h. ap check_number (merged_check l a b ∙ segments_over l _ _ h));
@@ -29,36 +28,36 @@ laws l fit =
           (λ e. twenty_two l _ _ (sym (ap check_number (merged_check l a b)) ∙ e), λ h. ap check_number (merged_check l a b ∙ entries_over l _ _ h.0 h.1));
       else_accepted = λ a b h k. merged_check l a b ∙ both_within l _ _ h k;
       given_back = given_back l;
-      lists = lists l fit;
-      is_run = is_run l fit;
-      is_run_of_both = is_run_of_both l fit;
-      is_whole = is_whole l fit;
+      lists = lists l;
+      is_run = is_run l;
+      is_run_of_both = is_run_of_both l;
+      is_whole = is_whole l;
       answered_whole = λ xs ys e before after r.
-          (subst (λ (st : Study). Answered st before after r) (is_whole l fit xs ys e), subst (λ (st : Study). Answered st before after r) (sym (is_whole l fit xs ys e)));
+          (subst (λ (st : Plan). Answered st before after r) (is_whole l xs ys e), subst (λ (st : Plan). Answered st before after r) (sym (is_whole l xs ys e)));
       own_levels = λ p xs ys. own_levels (accepted l xs) (accepted l ys) p (accepted-held l xs);
       own_result = λ p xs ys. own_result p (accepted l xs) (accepted l ys) (accepted-held l xs);
       second_unheard = λ p xs ys. second_unheard p (accepted l xs) (accepted l ys) (accepted-held l xs);
       first_unheard = λ p xs ys. first_unheard p (accepted l xs) (accepted l ys) (accepted-held l xs);
       own_fences = λ p xs ys. own_fences (accepted l xs) (accepted l ys) p (accepted-held l xs);
-      with_empty = with_empty l fit;
-      to_empty = to_empty l fit;
-      associative = associative l fit;
+      with_empty = with_empty l;
+      to_empty = to_empty l;
+      associative = associative l;
     }
 
 pub merge_laws : MergeLaws ours
-merge_laws = laws ours ours_fit
+merge_laws = laws ours
 
 -- ---- demand 3: a merged study is that of a list of additions
 
-module _ (band : Band) (l : Limits) (fit : LimitsFit l) (runs : AccurateRuns band l) where
+module _ (band : Band) (l : Limits) (runs : AccurateRuns band l) where
   pub merges_accurate : AccurateMerges band l
   merges_accurate xs ys p trains m before after r enough by =
-      let made = merge_is_run l fit xs ys in
-      let holds : accepted l made.0 ≡ merged_plan l (accepted l xs) (accepted l ys) = sym (run-accepted l fit made.0) ∙ ap plan_of (sym made.1) ∙ lists l fit xs ys in
-      rw holds at (runs made.0 p (rw holds trains) m before after r (rw holds enough) (subst (λ (st : Study). AnsweredBy (plan_of st) m before after r) made.1 by))
+      let made = merge_is_run l xs ys in
+      let holds : accepted l made.0 ≡ merged_plan l (accepted l xs) (accepted l ys) = sym (run-accepted l made.0) ∙ sym made.1 ∙ lists l xs ys in
+      rw holds at (runs made.0 p (rw holds trains) m before after r (rw holds enough) (subst (λ (st : Plan). AnsweredBy st m before after r) made.1 by))
 
 pub merged_demand_3 : MergedDemand3
-merged_demand_3 = merges_accurate _ ours ours_fit demand_3
+merged_demand_3 = merges_accurate _ ours demand_3
 
 pub merged_demand_3_sharp : AccurateMerges sharpest ours
-merged_demand_3_sharp = merges_accurate _ ours ours_fit demand_3_sharp
+merged_demand_3_sharp = merges_accurate _ ours demand_3_sharp

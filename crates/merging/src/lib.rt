@@ -3,44 +3,37 @@
 
 ghost use Rattle.std.specs.Prelude.{◌≡◌};
 ghost use Rattle.figures.specs.Refusal.{check_number};
-ghost use Rattle.study.specs.Plan.{plan_of};
-ghost use Rattle.study.specs.Add.{ours};
+ghost use Rattle.study.specs.Add.{ours, added};
 ghost use Rattle.merging.specs.Merge.{limits_check, limits_number, merge_number, merged};
 
-use figures::{Check, Refusal};
-use study::{Added, MOST_ENTRIES, MOST_SEGMENTS, Study, extended, holdings_of};
+use figures::Refusal;
+use study::{MOST_ENTRIES, MOST_SEGMENTS, Study};
 
 // Whether a study may hold so many segments and so many train entries: 21, then 22.
 #[tactic(auto, using(crate::proofs::Checks::segments_over, crate::proofs::Checks::entries_over, crate::proofs::Checks::both_within, crate::proofs::Checks::segments_over_number, crate::proofs::Checks::entries_over_number, crate::proofs::Checks::both_within_number))]
-pub fn limits_check(segments: usize, entries: usize) -> Check
+pub fn limits_check(segments: usize, entries: usize) -> Result<(), Refusal>
     ensures is { result ≡ limits_check ours segments entries }
     ensures number { check_number result ≡ limits_number ours segments entries }
 {
     if MOST_SEGMENTS < segments {
-        return Check::Refused(Refusal::SegmentLimit);
+        return Err(Refusal::SegmentLimit);
     }
     if MOST_ENTRIES < entries {
-        return Check::Refused(Refusal::EntryLimit);
+        return Err(Refusal::EntryLimit);
     }
-    Check::Accepted
+    Ok(())
 }
 
-// The first study with the second's segments and entries after its own, or the refusal and the first study.
-pub fn merge(first: Study, second: Study) -> Added
-    ensures is { result ≡ merged ours first second }
-    ensures number { check_number result.check ≡ merge_number ours (plan_of first) (plan_of second) }
+// The second study's segments and entries added to the first after its own, or the refusal and the first as it was.
+#[tactic(auto, unfolding(crate::specs::Merge::merged, crate::specs::Merge::merge_check, crate::specs::Merge::merge_number, study::specs::Add::answer), using(crate::proofs::Checks::limits_number_by))]
+pub fn merge(first: &mut Study, second: &Study) -> Result<(), Refusal>
+    ensures is { added result first.new ≡ merged ours first.old second.now }
+    ensures number { check_number result ≡ merge_number ours first.old second.now }
 {
-    let own = holdings_of(first);
-    let others = holdings_of(second);
-    let check = limits_check(own.count + others.count, own.total + others.total);
-    if let Check::Refused(_) = check {
-        return Added {
-            study: first,
-            check,
-        };
-    }
-    let segments = others.segments;
-    let entries = others.entries;
-    let study = extended(first, segments, others.count, entries, others.total);
-    Added { study, check }
+    limits_check(
+        first.segments().len() + second.segments().len(),
+        first.entries().len() + second.entries().len(),
+    )?;
+    first.append(second);
+    Ok(())
 }

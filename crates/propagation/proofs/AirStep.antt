@@ -20,7 +20,8 @@ use Rattle.decibel.proofs.Round.{tie_is, nearest_is, nearest_exact}
 use Rattle.figures.specs.declared.Segment.{Segment}
 use Rattle.figures.specs.Geometry.{squared, slant, slant_square}
 use Rattle.figures.specs.Bounds.{Below}
-use Rattle.figures.specs.Private.{Signed, Exactly, Ranged}
+use Rattle.figures.specs.Private.{Exactly}
+use Rattle.figures.proofs.Ranged.{Signed, Ranged}
 use Rattle.figures.proofs.Signs.{read, cast_read, returned}
 use Rattle.figures.proofs.Squares.{squared_is}
 use Rattle.propagation.specs.Air.{root_up, air_fence, AirAtLeast}

@@ -20,7 +20,7 @@ use Rattle.decibel.proofs.Greatest.{clamp_same}
 use Rattle.decibel.proofs.Fences.{fence_low, fence_high}
 use Rattle.decibel.proofs.Table.{both_left, both_right}
 use Rattle.figures.specs.declared.Segment.{Segment}
-use Rattle.figures.specs.Private.{Signed, Ranged}
+use Rattle.figures.proofs.Ranged.{Signed, Ranged}
 use Rattle.propagation.specs.Angle.{y_of, angle_fence}
 
 -- ---- a test of every number up to n

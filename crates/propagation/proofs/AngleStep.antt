@@ -21,7 +21,8 @@ use Rattle.decibel.proofs.Round.{tie_is, nearest_is, nearest-between}
 use Rattle.decibel.proofs.Exact.{fence_is}
 use Rattle.decibel.proofs.Fences.{fence_shift}
 use Rattle.figures.specs.declared.Segment.{Segment}
-use Rattle.figures.specs.Private.{Exactly, Ranged}
+use Rattle.figures.specs.Private.{Exactly}
+use Rattle.figures.proofs.Ranged.{Ranged}
 use Rattle.figures.proofs.Signs.{read, below_more, read_up, less, less_fits}
 use Rattle.figures.proofs.Tenths.{tenth_below, tenths_of_lem}
 use Rattle.figures.proofs.Lies.{fence_less}

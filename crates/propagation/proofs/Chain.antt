@@ -9,18 +9,18 @@ use borrow.Author.Tests.{leb-true}
 use Rattle.figures.specs.declared.Segment.{Segment}
 use Rattle.figures.specs.declared.Refusal.{Refusal}
 use Rattle.figures.specs.declared.Refusal.TheVariants.{Shadow, Reading}
-use Rattle.figures.specs.declared.Check.{Check}
-use Rattle.figures.specs.declared.Check.TheVariants.{Accepted, Refused}
 use Rattle.figures.specs.Geometry.{in_shadow}
-use Rattle.figures.specs.Refusal.{number_of, check_number, unless, first_refused}
+use Rattle.figures.specs.Refusal.{number_of, check_number, unless, first_refused, Check}
 use Rattle.figures.specs.Rules.{unscreened, range_check, readings_kept, lowest_number}
 use Rattle.figures.proofs.Kept.{first_kept, rest_kept, ranges_first, ranged, readings_ranged}
+use Rattle.figures.proofs.Ranged.{Ranged}
 use Rattle.figures.proofs.Numbers.{unless_number, ranges_number}
 use Rattle.propagation.specs.Screen.{path_difference, most_shadow, shadow_kept}
 use Rattle.propagation.specs.Check.{segment_check, segment_lines}
-use Rattle.propagation.specs.declared.check.Judged.{Judged}
-use Rattle.propagation.specs.declared.check.Judged.TheVariants as J
-use Rattle.propagation.specs.Private.{Ranges, Differs, Judges}
+use Rattle.propagation.specs.declared.kept.InRange.{InRange}
+use Rattle.propagation.specs.Private.{Differs}
+use Rattle.propagation.proofs.Ranges.{Ranges}
+use Rattle.std.specs.Prelude.{Ok, Err}
 
 in_depth : (s : Segment) → shadow_kept s ≡ true → unscreened s ≡ false → in_shadow s ≡ true → path_difference s ≤ most_shadow
 unfolding shadow_kept
@@ -32,7 +32,7 @@ in_depth s e f g = go (unscreened s) (in_shadow s) e f g
     go false false e f g = absurd (false≢true g)
 
 -- what an accepted segment keeps
-pub ranges : (s : Segment) → segment_check s ≡ Accepted → Ranges s
+pub ranges : (s : Segment) → segment_check s ≡ Ok tt → Ranges s
 unfolding segment_check
 ranges s e =
     let r = ranged s _ e in
@@ -43,28 +43,32 @@ ranges s e =
     }
 
 -- a refusal by one of the first five lines stands
-pub range_refused : (s : Segment) {k : Refusal} → range_check s ≡ Refused k → segment_check s ≡ Refused k
+pub range_refused : (s : Segment) {k : Refusal} → range_check s ≡ Err k → segment_check s ≡ Err k
 unfolding segment_check first_refused
-range_refused s e = ranges_first s _ ∙ ap (λ (x : Check). first_refused x (unless (shadow_kept s) Shadow (unless (readings_kept s) Reading Accepted))) e
+range_refused s e = ranges_first s _ ∙ ap (λ (x : Check). first_refused x (unless (shadow_kept s) Shadow (unless (readings_kept s) Reading (Ok tt)))) e
 
 -- where they are kept, the later lines decide
-pub range_kept : (s : Segment) → range_check s ≡ Accepted → segment_check s ≡ unless (shadow_kept s) Shadow (unless (readings_kept s) Reading Accepted)
+pub range_kept : (s : Segment) → range_check s ≡ Ok tt → segment_check s ≡ unless (shadow_kept s) Shadow (unless (readings_kept s) Reading (Ok tt))
 unfolding segment_check first_refused
-range_kept s e = ranges_first s _ ∙ ap (λ (x : Check). first_refused x (unless (shadow_kept s) Shadow (unless (readings_kept s) Reading Accepted))) e
+range_kept s e = ranges_first s _ ∙ ap (λ (x : Check). first_refused x (unless (shadow_kept s) Shadow (unless (readings_kept s) Reading (Ok tt)))) e
 
--- the code's two lines after the ranges are that end
-pub chain_is : (s : Segment) {shadow readings : Bool} {inner check : Check} → range_check s ≡ Accepted → check ≡ unless shadow Shadow inner → inner ≡ unless readings Reading Accepted → readings ≡ readings_kept s → shadow ≡ shadow_kept s → segment_check s ≡ check
-chain_is s g e f h k = range_kept s g ∙ sym (simp (e, f, h, k))
+module _ (s : Segment) (kept : range_check s ≡ Ok tt) where
+  pub shadowed : false ≡ shadow_kept s → segment_check s ≡ Err Shadow
+  unfolding unless
+  shadowed e = range_kept s kept ∙ simp (sym e)
 
--- what a judgement says of the check
-module _ (s : Segment) {j : Judged} (judges : Judges s j) where
-  pub kept_is : {m : ℕ} → j ≡ J.Kept m → (segment_check s ≡ Accepted) × Differs s m
-  unfolding Judges
-  kept_is e = rw e at judges
+  pub unread : true ≡ shadow_kept s → false ≡ readings_kept s → segment_check s ≡ Err Reading
+  unfolding unless
+  unread e f = range_kept s kept ∙ simp (sym e, sym f)
 
-  pub refused_is : {why : Refusal} → j ≡ J.Refused why → segment_check s ≡ Refused why
-  unfolding Judges
-  refused_is e = rw e at judges
+  pub all_kept : true ≡ shadow_kept s → true ≡ readings_kept s → segment_check s ≡ Ok tt
+  unfolding unless
+  all_kept e f = range_kept s kept ∙ simp (sym e, sym f)
+
+-- what the lengths of a segment in range keep
+pub in_range : (r : InRange) → Ranged r.segment
+unfolding range_check
+in_range r = (ranged r.segment (Ok tt) r.kept).0
 
 -- ---- a check, and its number
 

@@ -14,7 +14,8 @@ use Rattle.decibel.proofs.Exact.{fence_is}
 use Rattle.figures.specs.declared.Segment.{Segment}
 use Rattle.figures.specs.Geometry.{slant, slant_square}
 use Rattle.figures.specs.Rules.{least_distance, most_distance, highest_window}
-use Rattle.figures.specs.Private.{Signed, Exactly, Ranged}
+use Rattle.figures.specs.Private.{Exactly}
+use Rattle.figures.proofs.Ranged.{Signed, Ranged}
 use Rattle.figures.proofs.Signs.{read, below_back, from_below, signed_below, exactly_read, exactly_by}
 use Rattle.figures.proofs.Squares.{squared_is, slant_most}
 use Rattle.figures.proofs.Tenths.{tenths_of_lem}

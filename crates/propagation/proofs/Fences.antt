@@ -12,7 +12,6 @@ use Rattle.decibel.specs.Log.{AtLeast, fence}
 use Rattle.decibel.specs.Round.{IsFence}
 use Rattle.decibel.proofs.Exact.{fence_is, at_least_falls}
 use Rattle.figures.specs.declared.Segment.{Segment}
-use Rattle.figures.specs.declared.Check.TheVariants.{Accepted}
 use Rattle.figures.specs.Geometry.{in_shadow}
 use Rattle.figures.specs.Rules.{unscreened}
 use Rattle.propagation.specs.Screen.{path_difference, screen_formula, wall_loss, reduced, ReducedAtLeast, screen_fence}
@@ -26,6 +25,7 @@ use Rattle.propagation.proofs.AngleStep.{angle_fence_lem}
 use Rattle.propagation.proofs.OppositeStep.{opposite_fence_largest}
 use Rattle.propagation.proofs.WallLoss.{fence-reduced, none_reduced}
 use Rattle.propagation.proofs.GroundMark.{ground_fence_lem}
+use Rattle.std.specs.Prelude.{Ok}
 
 -- ---- ground that does not count, and the screen
 
@@ -52,7 +52,7 @@ module _ (s : Segment) where
       unfolding path_fence screen_fence screen_formula
       beyond h = rw (screened, lit, lt-leb (path_difference s) 4000000 h) (none_reduced (wall_loss s))
 
-pub segment_fences : (s : Segment) → segment_check s ≡ Accepted → SegmentFences s
+pub segment_fences : (s : Segment) → segment_check s ≡ Ok tt → SegmentFences s
 segment_fences s e =
     let g = (ranges s e).ranged in
     record {

@@ -22,7 +22,7 @@ use Rattle.decibel.proofs.Exact.{fence_is, log_ordered}
 use Rattle.decibel.proofs.Attenuation.{scaled_log, negative_low, negative_high, negative_above}
 use Rattle.figures.specs.declared.Segment.{Segment}
 use Rattle.figures.specs.Rules.{unscreened}
-use Rattle.figures.specs.Private.{Ranged}
+use Rattle.figures.proofs.Ranged.{Ranged}
 use Rattle.propagation.specs.Screen.{screen_fence}
 use Rattle.propagation.specs.Ground.{ground_factor, grounded, ground_fence, path_fence, is_close, GroundMarkBy, GroundMark, GroundSettledBy, GroundSettled, attenuation, ground_mark}
 

@@ -16,17 +16,18 @@ use Rattle.decibel.specs.Fine.{fine_log_at}
 use Rattle.decibel.specs.Lookup.{Whole}
 use Rattle.decibel.specs.Round.{nearest, by_mark}
 use Rattle.decibel.proofs.Ints.{add_is, neg_is, mag_most, from_parts}
-use Rattle.decibel.proofs.Greatest.{clamp-within}
 use Rattle.decibel.proofs.Round.{unmarked-nearest}
 use Rattle.figures.specs.declared.Segment.{Segment}
 use Rattle.figures.specs.Rules.{unscreened}
 use Rattle.figures.specs.Bounds.{Below}
-use Rattle.figures.specs.Private.{Signed, Exactly, Ranged}
+use Rattle.figures.specs.Private.{Exactly}
+use Rattle.figures.proofs.Ranged.{Signed, Ranged}
 use Rattle.figures.proofs.Signs.{read, below_more, below_back, natural_below, cast_read, read_up, returned, exactly_read}
 use Rattle.figures.proofs.Lies.{lies_within, lies_fence}
 use Rattle.propagation.specs.Screen.{screen_fence}
 use Rattle.propagation.specs.Ground.{ground_factor, grounded, ground_fence, path_fence, is_close, attenuation, ground_mark}
-use Rattle.propagation.specs.Private.{Ranges, PathTenths}
+use Rattle.propagation.specs.Private.{PathTenths}
+use Rattle.propagation.proofs.Ranges.{Ranges}
 use Rattle.propagation.proofs.ScreenStep.{screen_lies}
 use Rattle.propagation.proofs.GroundMark.{factor_most, far_tenths_are}
 
@@ -41,9 +42,6 @@ module _ {s : Segment} (g : Ranged s) {o : ℕ} (e : o ≡ up (read s.soft)) whe
   soft_fits = omega (arith, soft_read, g.soft.most)
 
   module _ {n c : ℕ} (f : n ≡ up (read s.mean)) (i : c ≡ clamp 100 600 n) where
-    pub clamped_most : c ≤ 600
-    clamped_most = omega (arith, clamp-within 100 600 n (lit≤ tt))
-
     pub factor_is : (600 * o * (600 - c) ≡ ground_factor s) × (600 * o * (600 - c) ≤ 3000000)
     unfolding ground_factor
     factor_is =

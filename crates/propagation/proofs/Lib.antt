@@ -1,3 +1,4 @@
+pub mod Ranges
 pub mod Chain
 pub mod DistanceStep
 pub mod AirStep

@@ -14,7 +14,8 @@ use Rattle.decibel.specs.Round.{nearest, IsFence, IsNearest}
 use Rattle.decibel.proofs.Ints.{mul_is, le_is, ints}
 use Rattle.decibel.proofs.Round.{nearest_exact}
 use Rattle.figures.specs.declared.Segment.{Segment}
-use Rattle.figures.specs.Private.{Signed, Exactly, Ranged, ReadingsRanged}
+use Rattle.figures.specs.Private.{Exactly}
+use Rattle.figures.proofs.Ranged.{Signed, Ranged, ReadingsRanged}
 use Rattle.figures.proofs.Signs.{read, cast_read, natural_below, read_up}
 use Rattle.propagation.specs.Opposite.{opposite_fence, OppositeAtLeast}
 

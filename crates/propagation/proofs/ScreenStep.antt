@@ -21,7 +21,8 @@ use Rattle.figures.specs.declared.Segment.{Segment}
 use Rattle.figures.specs.Geometry.{slant, slant_square, in_shadow}
 use Rattle.figures.specs.Rules.{unscreened, most_distance}
 use Rattle.figures.specs.Bounds.{Below}
-use Rattle.figures.specs.Private.{From, Signed, Exactly, Ranged}
+use Rattle.figures.specs.Private.{Exactly}
+use Rattle.figures.proofs.Ranged.{From, Signed, Ranged}
 use Rattle.figures.proofs.Signs.{read, below_back, from_below, signed_below, natural_below, exactly_read}
 use Rattle.figures.proofs.Squares.{slant_most}
 use Rattle.figures.proofs.Tenths.{tenths_of_lem}

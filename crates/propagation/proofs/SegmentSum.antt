@@ -1,6 +1,6 @@
 -- A segment's parts and their sum: as the code makes them, the mark, how far the sum lies from its fence and from zero.
 -- Assumes nothing.
-use mathlib.Core.Path.{◌≡◌, refl, sym, ◌∙◌, ap, ap₂, subst}
+use mathlib.Core.Path.{◌≡◌, refl, sym, ◌∙◌, ap, subst}
 use mathlib.Core.Bool.{Bool, true, false, cond}
 use Prim.Native.Nat.{ℕ, ◌+◌, ◌≤◌}
 use native.Mathlib.Nat.{lt_of_lt_of_le}
@@ -14,17 +14,16 @@ use Rattle.decibel.specs.Round.{nearest}
 use Rattle.decibel.proofs.Round.{Near, near_nearest, near_mark, near_exact, near_add}
 use Rattle.figures.specs.declared.Segment.{Segment}
 use Rattle.figures.specs.declared.Refusal.{Refusal}
-use Rattle.figures.specs.declared.Check.{Check}
-use Rattle.figures.specs.declared.Check.TheVariants.{Accepted, Refused}
-use Rattle.figures.specs.Refusal.{is_accepted, check_number}
+use Rattle.figures.specs.Refusal.{check_number, Check, answered, check_of}
 use Rattle.figures.specs.Rules.{within, lowest_number}
 use Rattle.figures.specs.Bounds.{Below}
-use Rattle.figures.specs.Private.{Signed, Exactly}
+use Rattle.figures.specs.Private.{Exactly}
+use Rattle.figures.proofs.Ranged.{Signed}
+use Rattle.figures.proofs.Numbers.{check_of-answered}
 use Rattle.figures.proofs.Signs.{read, below_more, below_back, natural_below, from_below, signed_below, returned, exactly_read, Sum, summand, added, summed}
 use Rattle.figures.proofs.Lies.{lies_add, lies_within, lies_from, lies_micro, near_lies}
 use Rattle.propagation.specs.declared.SegmentBreakdown.{SegmentBreakdown}
 use Rattle.propagation.specs.declared.Propagation.{Propagation}
-use Rattle.propagation.specs.declared.Judgement.{Judgement}
 use Rattle.propagation.specs.declared.ground.Path.{Path}
 use Rattle.propagation.specs.Distance.{distance_fence}
 use Rattle.propagation.specs.Air.{air_fence}
@@ -32,9 +31,10 @@ use Rattle.propagation.specs.Angle.{angle_fence}
 use Rattle.propagation.specs.Opposite.{opposite_fence}
 use Rattle.propagation.specs.Check.{segment_check, segment_lines}
 use Rattle.propagation.specs.Ground.{path_fence, ground_mark, SegmentMark, SegmentMarkBy}
-use Rattle.propagation.specs.Propagation.{facade_tenths, segment_parts_by, no_segment_parts, segment_breakdown_by, segment_breakdown_of, added_up, propagation_of, no_propagation, segment_fence, refusal_judgement, judgement_of}
-use Rattle.propagation.specs.Results.{PartsBelow, SegmentParted, JudgementAllowed}
-use Rattle.propagation.specs.Private.{Ranges, PathTenths, FourAdded, sum_of}
+use Rattle.propagation.specs.Propagation.{facade_tenths, segment_parts_by, no_segment_parts, segment_breakdown_by, segment_breakdown_of, added_up, propagation_of, judgement_of, segment_fence}
+use Rattle.propagation.specs.Results.{PartsBelow, SegmentParted}
+use Rattle.propagation.specs.Private.{PathTenths, FourAdded, sum_of}
+use Rattle.propagation.proofs.Ranges.{Ranges}
 use Rattle.propagation.proofs.Chain.{ranges, segment_number_lem}
 use Rattle.propagation.proofs.DistanceStep.{distance_lies}
 use Rattle.propagation.proofs.AirStep.{air_lies}
@@ -42,6 +42,8 @@ use Rattle.propagation.proofs.AngleRange.{angle_lies}
 use Rattle.propagation.proofs.OppositeStep.{opposite_lies}
 use Rattle.propagation.proofs.GroundMark.{ground_mark_allowed}
 use Rattle.propagation.proofs.GroundStep.{path_lies}
+use Rattle.std.specs.Prelude.{Result, Ok, Err, is_ok}
+use Rattle.std.specs.Result.{ResultUnwrapsOrElse}
 
 -- ---- the facade
 
@@ -84,31 +86,31 @@ parts_are s {p} g q d a v o f =
     }
 
 module _ (s : Segment) where
-  pub accepted_breakdown : (mark : Bool) → segment_check s ≡ Accepted → segment_parts_by s mark ≡ segment_breakdown_by s mark
-  unfolding segment_breakdown_by is_accepted
+  pub accepted_breakdown : (mark : Bool) → segment_check s ≡ Ok tt → segment_parts_by s mark ≡ segment_breakdown_by s mark
+  unfolding segment_breakdown_by
   accepted_breakdown mark e = sym (rw e refl)
 
-  pub refused_breakdown : (mark : Bool) {k : Refusal} → segment_check s ≡ Refused k → no_segment_parts ≡ segment_breakdown_by s mark
-  unfolding segment_breakdown_by is_accepted
+  pub refused_breakdown : (mark : Bool) {k : Refusal} → segment_check s ≡ Err k → no_segment_parts ≡ segment_breakdown_by s mark
+  unfolding segment_breakdown_by
   refused_breakdown mark e = sym (rw e refl)
 
   -- 01 allows the program's own mark of every segment
   pub own_mark_allowed : SegmentMark s (segment_breakdown_of s).close
-  unfolding SegmentMark SegmentMarkBy is_accepted segment_breakdown_of segment_breakdown_by segment_parts_by no_segment_parts
+  unfolding SegmentMark SegmentMarkBy segment_breakdown_of segment_breakdown_by segment_parts_by no_segment_parts
   own_mark_allowed = go (segment_check s) refl
     where
-      go : (check : Check) → segment_check s ≡ check → SegmentMarkBy (is_accepted check) s (cond (is_accepted check) (segment_parts_by s (ground_mark s)) no_segment_parts).close
-      go Accepted a = ground_mark_allowed s (ranges s a).ranged
-      go (Refused r) a = refl
+      go : (check : Check) → segment_check s ≡ check → SegmentMarkBy (is_ok check) s (cond (is_ok check) (segment_parts_by s (ground_mark s)) no_segment_parts).close
+      go (Ok _) a = ground_mark_allowed s (ranges s a).ranged
+      go (Err r) a = refl
 
   pub mark_allowed : {b : SegmentBreakdown} → SegmentParted (segment_breakdown_of s) b → SegmentMark s b.close
   mark_allowed {b} p = rw p.is own_mark_allowed
 
-  pub accepted_parts : {b : SegmentBreakdown} → segment_check s ≡ Accepted → SegmentParted (segment_parts_by s (ground_mark s)) b → SegmentParted (segment_breakdown_of s) b
+  pub accepted_parts : {b : SegmentBreakdown} → segment_check s ≡ Ok tt → SegmentParted (segment_parts_by s (ground_mark s)) b → SegmentParted (segment_breakdown_of s) b
   unfolding segment_breakdown_of
   accepted_parts {b} e p = subst (λ (v : SegmentBreakdown). SegmentParted v b) (accepted_breakdown (ground_mark s) e) p
 
-  pub refused_parts : {k : Refusal} → segment_check s ≡ Refused k → SegmentParted (segment_breakdown_of s) (made (pos 0) (pos 0) (pos 0) (pos 0) (pos 0) false (pos 0) (pos 0) (pos 0) (pos 0))
+  pub refused_parts : {k : Refusal} → segment_check s ≡ Err k → SegmentParted (segment_breakdown_of s) (made (pos 0) (pos 0) (pos 0) (pos 0) (pos 0) false (pos 0) (pos 0) (pos 0) (pos 0))
   unfolding segment_breakdown_of no_segment_parts
   refused_parts e =
       let zero : Below 2000 (pos 0) = natural_below (lit< tt) in
@@ -212,31 +214,37 @@ module _ {b : SegmentBreakdown} (q : PartsBelow b) {e : ℤ} (r : FourAdded 8000
   pub sum_is : record { tenths = short (read (read b.distance +ℤ read beyond)); close = b.close } ≡ sum_of b
   sum_is = ap (λ (t : ℤ). record { tenths = t; close = b.close }) (to_z-of_z sum_fits ∙ parts_add-up)
 
--- ---- the judgement: the check, and that sum or nothing
+-- ---- what a segment adds, or nothing
 
-abbrev judgement : Check → Propagation → Judgement
-judgement check added = record { check = check; propagation = added }
+-- what a segment that is refused adds: nothing
+abbrev pub no_propagation : Propagation
+no_propagation = record { tenths = pos 0; close = false }
 
 module _ (s : Segment) where
-  pub judged_kept : {b : SegmentBreakdown} {p : Propagation} → segment_check s ≡ Accepted → SegmentParted (segment_parts_by s (ground_mark s)) b → p ≡ sum_of b → judgement Accepted p ≡ judgement_of s
-  unfolding judgement_of propagation_of
-  judged_kept e q i = ap₂ judgement (sym e) (i ∙ ap sum_of (accepted_parts s e q).is)
+  pub judged_kept : {b : SegmentBreakdown} {p : Propagation} → segment_check s ≡ Ok tt → SegmentParted (segment_parts_by s (ground_mark s)) b → p ≡ sum_of b → p ≡ propagation_of s
+  unfolding propagation_of
+  judged_kept e q i = i ∙ ap sum_of (accepted_parts s e q).is
 
-  pub none_added : {k : Refusal} → segment_check s ≡ Refused k → no_propagation ≡ propagation_of s
+  pub none_added : {k : Refusal} → segment_check s ≡ Err k → no_propagation ≡ propagation_of s
   unfolding propagation_of added_up
   none_added e = ap sum_of (refused_parts s e).is
 
-  pub judged_refused : {k : Refusal} → segment_check s ≡ Refused k → refusal_judgement k ≡ judgement_of s
-  unfolding refusal_judgement judgement_of
-  judged_refused e = ap₂ judgement (sym e) (none_added e)
+  -- where a refusal stands for what adds nothing
+  pub propagated : {D : Propagation → Type 0} {r : Result Propagation Refusal} {p : Propagation} → ((x : Propagation) → D x → x ≡ no_propagation) → r ≡ judgement_of s → ResultUnwrapsOrElse r D p → p ≡ propagation_of s
+  unfolding judgement_of answered
+  propagated {D} {r} {p} none i u = go (segment_check s) refl (subst (λ (x : Result Propagation Refusal). ResultUnwrapsOrElse x D p) i u)
+    where
+      go : (c : Check) → segment_check s ≡ c → ResultUnwrapsOrElse (answered c (propagation_of s)) D p → p ≡ propagation_of s
+      go (Ok _) e u = u
+      go (Err k) e u = none p u ∙ none_added e
 
-  pub judgement_allowed : {r : Judgement} → r ≡ judgement_of s → JudgementAllowed s r
-  unfolding judgement_of propagation_of
-  judgement_allowed i = record { mark = rw i (own_mark_allowed s) }
+  pub judged_allowed : {p : Propagation} → p ≡ propagation_of s → SegmentMark s p.close
+  unfolding propagation_of
+  judged_allowed i = rw i (own_mark_allowed s)
 
-  pub judgement_number : {r : Judgement} → r ≡ judgement_of s → check_number r.check ≡ lowest_number (segment_lines s)
+  pub judged_number : {r : Result Propagation Refusal} → r ≡ judgement_of s → check_number (check_of r) ≡ lowest_number (segment_lines s)
   unfolding judgement_of
-  judgement_number i = ap (λ (r : Judgement). check_number r.check) i ∙ segment_number_lem s
+  judged_number i = ap (λ (x : Result Propagation Refusal). check_number (check_of x)) i ∙ ap check_number (check_of-answered (segment_check s) (propagation_of s)) ∙ segment_number_lem s
 
 -- ---- near its fence
 
@@ -269,11 +277,11 @@ segment_lies s g =
 
 -- ---- what is propagated: that sum, or nothing
 
-pub accepted_tenths : (s : Segment) (mark : Bool) → segment_check s ≡ Accepted → added_up (segment_breakdown_by s mark) ≡ segment_tenths s mark
+pub accepted_tenths : (s : Segment) (mark : Bool) → segment_check s ≡ Ok tt → added_up (segment_breakdown_by s mark) ≡ segment_tenths s mark
 unfolding segment_tenths
 accepted_tenths s mark e = ap added_up (sym (accepted_breakdown s mark e))
 
-pub refused_tenths : (s : Segment) (mark : Bool) {k : Refusal} → segment_check s ≡ Refused k → added_up (segment_breakdown_by s mark) ≡ pos 0
+pub refused_tenths : (s : Segment) (mark : Bool) {k : Refusal} → segment_check s ≡ Err k → added_up (segment_breakdown_by s mark) ≡ pos 0
 unfolding added_up no_segment_parts
 refused_tenths s mark e = ap added_up (sym (refused_breakdown s mark e))
 
@@ -283,7 +291,7 @@ unfolding propagation_of segment_breakdown_of
 propagation_small s = go (segment_check s) refl
   where
     go : (c : Check) → segment_check s ≡ c → Below 20000 (added_up (segment_breakdown_by s (ground_mark s)))
-    go Accepted e =
+    go (Ok _) e =
         let l = near_lies 1000 1000 (segment_tenths s (ground_mark s)) (segment_fence s) (lit≤ tt) (lit≤ tt) (near_segment s (ground_mark s)) (segment_lies s (ranges s e)) in
         rw (accepted_tenths s (ground_mark s) e) (signed_below (lit< tt) (lit< tt) l)
-    go (Refused k) e = rw (refused_tenths s (ground_mark s) e) (natural_below (lit< tt))
+    go (Err k) e = rw (refused_tenths s (ground_mark s) e) (natural_below (lit< tt))

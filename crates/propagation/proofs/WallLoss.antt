@@ -19,7 +19,8 @@ use Rattle.decibel.proofs.Round.{micro_is, tie_is, nearest-between, nearest_is, 
 use Rattle.figures.specs.declared.Segment.{Segment}
 use Rattle.figures.specs.Rules.{highest_wall}
 use Rattle.figures.specs.Bounds.{Below}
-use Rattle.figures.specs.Private.{Signed, Exactly, Ranged}
+use Rattle.figures.specs.Private.{Exactly}
+use Rattle.figures.proofs.Ranged.{Signed, Ranged}
 use Rattle.figures.proofs.Signs.{read, below_back, natural_below, signed_below, cast_read, read_up, returned, Sum, summand, summed}
 use Rattle.propagation.specs.Screen.{wall_metres, at_most_zero, reduced, ReducedAtLeast}
 

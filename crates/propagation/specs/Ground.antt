@@ -1,13 +1,12 @@
 -- The ground step (01, "The steps"; Chart 5, paragraph 21), the screen instead of it, and its close mark (01's term): which marks are allowed, and the program's own.
 -- Assumes nothing.
-use Rattle.std.specs.Prelude.{◌≡◌, Bool, true, false, cond, ◌&&◌, ℕ, ◌*◌, ◌-◌, ◌/◌, ◌%◌, leb, ltb, ℤ, pos}
+use Rattle.std.specs.Prelude.{◌≡◌, Bool, true, false, cond, ◌&&◌, ℕ, ◌*◌, ◌-◌, ◌/◌, ◌%◌, leb, ltb, ℤ, pos, is_ok}
 use Rattle.decibel.specs.Ints.{up}
 use Rattle.decibel.specs.Greatest.{clamp}
 use Rattle.decibel.specs.Fine.{fine_log_at}
 use Rattle.decibel.specs.Log.{AtLeast, AtMost, fence}
 use Rattle.decibel.specs.Round.{nearest, MarkAllowed, Settled}
 use Rattle.figures.specs.declared.Segment.{Segment}
-use Rattle.figures.specs.Refusal.{is_accepted}
 use Rattle.figures.specs.Rules.{unscreened}
 use Rattle.propagation.specs.Screen.{screen_fence}
 use Rattle.propagation.specs.Check.{segment_check}
@@ -66,4 +65,4 @@ SegmentMarkBy true s mark = GroundMark s mark
 SegmentMarkBy false s mark = mark ≡ false
 
 unfoldable pub SegmentMark : Segment → Bool → Type 0
-SegmentMark s mark = SegmentMarkBy (is_accepted (segment_check s)) s mark
+SegmentMark s mark = SegmentMarkBy (is_ok (segment_check s)) s mark

@@ -1,39 +1,25 @@
 -- What contracts of this crate's private functions cite.
 -- Assumes nothing.
-use Rattle.std.specs.Prelude.{◌≡◌, true, false, ℕ, ◌≤◌, ◌<◌, ℤ, ◌+ℤ◌}
+use Rattle.std.specs.Prelude.{◌≡◌, false, ℕ, ◌<◌, ℤ, ◌+ℤ◌, Result, Ok, Err}
 use Rattle.std.specs.Int.Signed.{mag}
 use Rattle.decibel.specs.Round.{by_mark}
 use Rattle.figures.specs.declared.Segment.{Segment}
-use Rattle.figures.specs.declared.Check.TheVariants.{Accepted, Refused}
-use Rattle.figures.specs.Geometry.{in_shadow}
 use Rattle.figures.specs.Rules.{unscreened}
 use Rattle.figures.specs.Bounds.{Below}
-use Rattle.figures.specs.Private.{Ranged, ReadingsRanged}
+use Rattle.figures.specs.declared.Refusal.{Refusal}
+use Rattle.propagation.specs.declared.kept.Kept.{Kept}
 use Rattle.propagation.specs.declared.SegmentBreakdown.{SegmentBreakdown}
 use Rattle.propagation.specs.declared.Propagation.{Propagation}
 use Rattle.propagation.specs.declared.ground.Path.{Path}
-use Rattle.propagation.specs.declared.check.Judged.{Judged}
-use Rattle.propagation.specs.declared.check.Judged.TheVariants as J
-use Rattle.propagation.specs.Angle.{y_of}
-use Rattle.propagation.specs.Screen.{length_of, path_difference, most_shadow}
 use Rattle.propagation.specs.Check.{segment_check}
+use Rattle.propagation.specs.Angle.{y_of}
+use Rattle.propagation.specs.Screen.{length_of, path_difference}
 use Rattle.propagation.specs.Ground.{path_fence, ground_mark}
 use Rattle.propagation.specs.Propagation.{added_up}
-
--- an accepted segment (`ranges` of proofs/Chain.antt)
-pub record Ranges (s : Segment) : Type 0 where
-  pub ranged : Ranged s
-  pub readings : ReadingsRanged s
-  pub shadow : unscreened s ≡ false → in_shadow s ≡ true → path_difference s ≤ most_shadow
 
 -- m is the path difference where there is a screen
 pub record Differs (s : Segment) (m : ℕ) : Type 0 where
   pub is : unscreened s ≡ false → m ≡ path_difference s
-
--- kept with its path difference, or refused
-unfoldable pub Judges : Segment → Judged → Type 0
-Judges s (J.Kept m) = (segment_check s ≡ Accepted) × Differs s m
-Judges s (J.Refused k) = segment_check s ≡ Refused k
 
 pub record Length (n r : ℕ) : Type 0 where
   pub is : r ≡ length_of n
@@ -58,3 +44,8 @@ pub record FourAdded (bound : ℕ) (a b c d r : ℤ) : Type 0 where
 -- the parts added, with their mark
 abbrev pub sum_of : SegmentBreakdown → Propagation
 sum_of b = record { tenths = added_up b; close = b.close }
+
+-- the segment itself, kept, or its refusal
+unfoldable pub Judges : Segment → Result Kept Refusal → Type 0
+Judges s (Ok k) = k.ranged.segment ≡ s
+Judges s (Err why) = segment_check s ≡ Err why

@@ -1,15 +1,13 @@
 -- What a segment adds to the level of each of its entries: its parts, their sum, and its judgement (01, "The steps" and "The bare level").
 -- Assumes nothing.
-use Rattle.std.specs.Prelude.{Bool, false, cond, ℤ, pos, ◌+ℤ◌}
+use Rattle.std.specs.Prelude.{Bool, false, cond, ℤ, pos, ◌+ℤ◌, Result, is_ok}
 use Rattle.decibel.specs.Round.{micro, nearest, by_mark}
 use Rattle.figures.specs.declared.Segment.{Segment}
 use Rattle.figures.specs.declared.Refusal.{Refusal}
-use Rattle.figures.specs.declared.Check.TheVariants.{Refused}
-use Rattle.figures.specs.Refusal.{is_accepted}
+use Rattle.figures.specs.Refusal.{answered}
 use Rattle.figures.specs.Rules.{within}
 use Rattle.propagation.specs.declared.SegmentBreakdown.{SegmentBreakdown}
 use Rattle.propagation.specs.declared.Propagation.{Propagation}
-use Rattle.propagation.specs.declared.Judgement.{Judgement}
 use Rattle.propagation.specs.Distance.{distance_fence}
 use Rattle.propagation.specs.Air.{air_fence}
 use Rattle.propagation.specs.Angle.{angle_fence}
@@ -44,7 +42,7 @@ no_segment_parts = record { distance = pos 0; air = pos 0; angle = pos 0; opposi
 
 -- for every segment: nothing of a refused one
 unfoldable pub segment_breakdown_by : Segment → Bool → SegmentBreakdown
-segment_breakdown_by s mark = cond (is_accepted (segment_check s)) (segment_parts_by s mark) no_segment_parts
+segment_breakdown_by s mark = cond (is_ok (segment_check s)) (segment_parts_by s mark) no_segment_parts
 
 -- by the program's own mark
 unfoldable pub segment_breakdown_of : Segment → SegmentBreakdown
@@ -59,9 +57,6 @@ added_up b =
 unfoldable pub propagation_of : Segment → Propagation
 propagation_of s = record { tenths = added_up (segment_breakdown_of s); close = (segment_breakdown_of s).close }
 
-abbrev pub no_propagation : Propagation
-no_propagation = record { tenths = pos 0; close = false }
-
 -- with no step rounded; the screen's is after the far wall's loss (L1)
 unfoldable pub segment_fence : Segment → ℤ
 segment_fence s =
@@ -70,10 +65,6 @@ segment_fence s =
 
 -- ---- judged
 
--- a refusal, with nothing added
-unfoldable pub refusal_judgement : Refusal → Judgement
-refusal_judgement refusal = record { check = Refused refusal; propagation = no_propagation }
-
--- a segment's check and what it adds
-unfoldable pub judgement_of : Segment → Judgement
-judgement_of s = record { check = segment_check s; propagation = propagation_of s }
+-- what a segment adds, or its refusal
+unfoldable pub judgement_of : Segment → Result Propagation Refusal
+judgement_of s = answered (segment_check s) (propagation_of s)

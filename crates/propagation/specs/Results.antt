@@ -1,11 +1,8 @@
 -- What the public functions of this crate ensure: the value, and bounds that let it be added.
 -- Assumes nothing.
 use Rattle.std.specs.Prelude.{◌≡◌}
-use Rattle.figures.specs.declared.Segment.{Segment}
 use Rattle.figures.specs.Bounds.{Below}
 use Rattle.propagation.specs.declared.SegmentBreakdown.{SegmentBreakdown}
-use Rattle.propagation.specs.declared.Judgement.{Judgement}
-use Rattle.propagation.specs.Ground.{SegmentMark}
 
 -- each part is small
 pub record PartsBelow (b : SegmentBreakdown) : Type 0 where
@@ -22,7 +19,3 @@ pub record PartsBelow (b : SegmentBreakdown) : Type 0 where
 pub record SegmentParted (v r : SegmentBreakdown) : Type 0 where
   pub is : r ≡ v
   pub small : PartsBelow r
-
--- 01 allows the mark of what a segment adds
-pub record JudgementAllowed (s : Segment) (r : Judgement) : Type 0 where
-  pub mark : SegmentMark s r.propagation.close

@@ -2,17 +2,18 @@
 ghost use Rattle.decibel.specs.Round.{nearest};
 ghost use Rattle.figures.specs.Private.{Exactly};
 ghost use Rattle.propagation.specs.Air.{air_fence};
-ghost use Rattle.propagation.specs.Private.{Ranges};
 
-use figures::{Segment, natural, slant_of};
+use crate::kept::InRange;
+use figures::{natural, slant_of};
 
 // How many ties the attenuation of 0.008 dB a metre has passed: at least as many as over the horizontal distance, a tenth in 1250 cm.
-pub(crate) fn air_step(s: Segment) -> i32
-    requires { Ranges s }
-    ensures { Exactly (nearest (air_fence s)) result }
+pub(crate) fn air_step(ranged: InRange) -> i32
+    ensures { Exactly (nearest (air_fence ranged.segment)) result }
 {
+    let s = ranged.segment;
     let square = 6400 * slant_of(s.distance, s.height);
     let mut passed: u64 = natural(s.distance) / 1250;
+    // a loop by value: no index of a list is counted
     while (100000 * passed + 50000) * (100000 * passed + 50000) < square {
         passed += 1;
     }

@@ -3,9 +3,10 @@ ghost use Rattle.std.specs.Prelude.{◌≤◌};
 ghost use Rattle.decibel.specs.Round.{nearest};
 ghost use Rattle.figures.specs.Private.{Exactly};
 ghost use Rattle.propagation.specs.Angle.{angle_fence};
-ghost use Rattle.propagation.specs.Private.{Ranges, View};
+ghost use Rattle.propagation.specs.Private.{View};
 
-use figures::{Segment, natural, wide_natural};
+use crate::kept::InRange;
+use figures::natural;
 
 // y in billionths.
 fn y_of(view: u64, doubled: u64) -> i64
@@ -17,10 +18,10 @@ fn y_of(view: u64, doubled: u64) -> i64
 }
 
 // 5 decibels less, and 90 because y is in billionths.
-pub(crate) fn angle_step(s: Segment) -> i32
-    requires { Ranges s }
-    ensures { Exactly (nearest (angle_fence s)) result }
+pub(crate) fn angle_step(ranged: InRange) -> i32
+    ensures { Exactly (nearest (angle_fence ranged.segment)) result }
 {
+    let s = ranged.segment;
     let y = y_of(natural(s.view), natural(s.doubled));
-    decibel::ten_log(wide_natural(y)) - 950
+    decibel::ten_log(u64::try_from(y).unwrap_or(0)) - 950
 }

@@ -1,20 +1,13 @@
 // The chain of refusals of a segment: its ranges, then the shadow, then the readings.
 ghost use Rattle.std.specs.Prelude.{◌≡◌};
-ghost use Rattle.figures.specs.declared.Check.TheVariants.{Accepted};
-ghost use Rattle.figures.specs.Rules.{range_check};
 ghost use Rattle.propagation.specs.Screen.{shadow_kept};
-ghost use Rattle.propagation.specs.Private.{Differs, Judges};
+ghost use Rattle.propagation.specs.Private.{Differs};
+ghost use Rattle.propagation.specs.Private.{Judges};
 
+use crate::kept::{InRange, Kept};
 use crate::screen;
 use figures::ranges::{range_check, readings_kept};
-use figures::{Check, Refusal, Segment, unless};
-
-// Kept, with the path difference over its screen (0 without one), or why not.
-#[derive(Clone, Copy)]
-pub(crate) enum Judged {
-    Kept(u64),
-    Refused(Refusal),
-}
+use figures::{Refusal, Segment};
 
 // Line 6, by the path difference.
 fn shadow_kept(s: Segment, m: u64) -> bool
@@ -24,31 +17,19 @@ fn shadow_kept(s: Segment, m: u64) -> bool
     figures::is_unscreened(s) | (!figures::in_shadow(s) | (m <= screen::MOST_SHADOW))
 }
 
-// Lines 6 and 7, of a segment that keeps its ranges, so that the lengths fit.
-fn judge_in_range(s: Segment) -> Judged
-    requires { range_check s ≡ Accepted }
+// The segment with its path difference, or the first line that it does not keep.
+#[tactic(auto, unfolding(crate::specs::Private::Judges), using(crate::proofs::Chain::range_refused, crate::proofs::Chain::shadowed, crate::proofs::Chain::unread, crate::proofs::Chain::all_kept))]
+pub(crate) fn judge(s: Segment) -> Result<Kept, Refusal>
     ensures { Judges s result }
 {
-    let m = screen::difference_of(s);
-    let shadow = shadow_kept(s, m);
-    let readings = readings_kept(s);
-    let check = unless(
-        shadow,
-        Refusal::Shadow,
-        unless(readings, Refusal::Reading, Check::Accepted),
-    );
-    match check {
-        Check::Accepted => Judged::Kept(m),
-        Check::Refused(refusal) => Judged::Refused(refusal),
+    range_check(s)?;
+    let ranged = InRange { segment: s };
+    let difference = screen::difference_of(ranged);
+    if !shadow_kept(s, difference) {
+        return Err(Refusal::Shadow);
     }
-}
-
-// The first line that a segment does not keep.
-pub(crate) fn judge(s: Segment) -> Judged
-    ensures { Judges s result }
-{
-    match range_check(s) {
-        Check::Accepted => judge_in_range(s),
-        Check::Refused(refusal) => Judged::Refused(refusal),
+    if !readings_kept(s) {
+        return Err(Refusal::Reading);
     }
+    Ok(Kept { ranged, difference })
 }

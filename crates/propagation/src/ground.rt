@@ -3,9 +3,10 @@ ghost use Rattle.std.specs.Prelude.{◌≡◌, true, ◌+◌, ◌/◌, ◌≤◌
 ghost use Rattle.decibel.specs.Lookup.{Whole};
 ghost use Rattle.figures.specs.Rules.{unscreened};
 ghost use Rattle.propagation.specs.Ground.{ground_factor, attenuation, is_close};
-ghost use Rattle.propagation.specs.Private.{Ranges, PathTenths};
+ghost use Rattle.propagation.specs.Private.{PathTenths};
 
-use figures::{Segment, natural};
+use crate::kept::InRange;
+use figures::natural;
 
 // Ground, or the screen instead of it, in tenths, and the ground's close mark.
 #[derive(Clone, Copy)]
@@ -15,23 +16,23 @@ pub(crate) struct Path {
 }
 
 // The factor, in microdecibels to the tenfold.
-fn ground_factor(s: Segment) -> u64
-    requires { Ranges s }
-    ensures { (result ≡ ground_factor s) × (result ≤ 3000000) }
+fn ground_factor(ranged: InRange) -> u64
+    ensures { (result ≡ ground_factor ranged.segment) × (result ≤ 3000000) }
 {
-    600 * natural(s.soft) * (600 - decibel::clamp(natural(s.mean), 100, 600))
+    let s = ranged.segment;
+    600 * natural(s.soft) * (600 - natural(s.mean).clamp(100, 600))
 }
 
 // The attenuation in microdecibels: 10 log(d / 2500) is 10 log(4 d) less 40 decibels. Nearer than 25 m there is none.
-fn attenuation_of(s: Segment) -> u64
-    requires { Ranges s }
-    ensures { Whole 20000000 (attenuation s) result }
+fn attenuation_of(ranged: InRange) -> u64
+    ensures { Whole 20000000 (attenuation ranged.segment) result }
 {
+    let s = ranged.segment;
     let whole = decibel::fine_log(4 * natural(s.distance));
     if whole < 40000000 {
         return 0;
     }
-    (whole - 40000000) * ground_factor(s) / 10000000
+    (whole - 40000000) * ground_factor(ranged) / 10000000
 }
 
 // The tenths: the nearest, and the louder up to 0.0015 dB past a tie.
@@ -51,17 +52,18 @@ fn is_close(a: u64) -> bool
 }
 
 // Ground, where no screen stands.
-pub(crate) fn ground_step(s: Segment) -> Path
-    requires { Ranges s × (unscreened s ≡ true) }
-    ensures { PathTenths s result }
+pub(crate) fn ground_step(ranged: InRange) -> Path
+    requires { unscreened ranged.segment ≡ true }
+    ensures { PathTenths ranged.segment result }
 {
+    let s = ranged.segment;
     if natural(s.distance) <= 2500 {
         return Path {
             tenths: 0,
             close: false,
         };
     }
-    let a = attenuation_of(s);
+    let a = attenuation_of(ranged);
     Path {
         tenths: ground_tenths(a),
         close: is_close(a),

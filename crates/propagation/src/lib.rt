@@ -7,24 +7,25 @@ mod check;
 mod distance;
 mod facade;
 mod ground;
+mod kept;
 mod opposite;
 mod screen;
 
-ghost use Rattle.std.specs.Prelude.{◌≡◌};
-ghost use Rattle.figures.specs.Refusal.{number_of, check_number};
+ghost use Rattle.std.specs.Prelude.{◌≡◌, IfOk};
+ghost use Rattle.figures.specs.Refusal.{check_number, check_of};
 ghost use Rattle.figures.specs.Rules.{lowest_number};
 ghost use Rattle.propagation.specs.Check.{segment_check, segment_lines};
 ghost use Rattle.propagation.specs.Ground.{ground_mark, SegmentMark};
-ghost use Rattle.propagation.specs.Propagation.{segment_parts_by, segment_breakdown_of, propagation_of, refusal_judgement, judgement_of};
-ghost use Rattle.propagation.specs.Results.{PartsBelow, SegmentParted, JudgementAllowed};
-ghost use Rattle.propagation.specs.Private.{Ranges, Differs, PathTenths, FourAdded, sum_of};
+ghost use Rattle.propagation.specs.Propagation.{segment_parts_by, segment_breakdown_of, propagation_of, judgement_of};
+ghost use Rattle.propagation.specs.Results.{PartsBelow, SegmentParted};
+ghost use Rattle.propagation.specs.Private.{PathTenths, FourAdded, sum_of};
 
-use check::Judged;
-use figures::{Check, Refusal, Segment};
+use figures::{Refusal, Segment};
 use ground::Path;
+use kept::Kept;
 
 // What each step of a segment adds, in tenths, and the ground's close mark.
-#[derive(Clone, Copy)]
+#[derive(Clone, Copy, Default)]
 pub struct SegmentBreakdown {
     pub distance: i32,
     pub air: i32,
@@ -40,56 +41,49 @@ pub struct SegmentBreakdown {
 }
 
 // What a segment adds to the level of each of its entries, and whether its ground step is marked as close to a tie.
-#[derive(Clone, Copy)]
+#[derive(Clone, Copy, Default)]
 pub struct Propagation {
-    // 16 bits hold it, so that a judgement is small
+    // 16 bits hold it, so that 24 of them are small
     pub tenths: i16,
     pub close: bool,
 }
 
-// A segment judged once: its check, and what it adds.
-#[derive(Clone, Copy)]
-pub struct Judgement {
-    pub check: Check,
-    pub propagation: Propagation,
-}
-
 // The first line that a segment does not keep.
-pub fn segment_check(s: Segment) -> Check
+#[tactic(auto, unfolding(crate::specs::Private::Judges), using(crate::proofs::Chain::segment_checked))]
+pub fn segment_check(s: Segment) -> Result<(), Refusal>
     ensures is { result ≡ segment_check s }
     ensures number { check_number result ≡ lowest_number (segment_lines s) }
 {
-    match check::judge(s) {
-        Judged::Kept(_) => Check::Accepted,
-        Judged::Refused(refusal) => Check::Refused(refusal),
-    }
+    check::judge(s)?;
+    Ok(())
 }
 
-// Ground, or the screen instead of it, for a path difference of m.
-fn path_step(s: Segment, m: u64) -> Path
-    requires { Ranges s × Differs s m }
-    ensures { PathTenths s result }
+// Ground, or the screen instead of it.
+fn path_step(kept: Kept) -> Path
+    ensures { PathTenths kept.ranged.segment result }
 {
-    if figures::is_unscreened(s) {
-        return ground::ground_step(s);
+    let ranged = kept.ranged;
+    if figures::is_unscreened(ranged.segment) {
+        return ground::ground_step(ranged);
     }
     Path {
-        tenths: screen::screen_step(s, m),
+        tenths: screen::screen_step(kept),
         close: false,
     }
 }
 
 // The parts of an accepted segment.
-fn parts_of(s: Segment, m: u64) -> SegmentBreakdown
-    requires { Ranges s × Differs s m }
-    ensures { SegmentParted (segment_parts_by s (ground_mark s)) result }
+fn parts_of(kept: Kept) -> SegmentBreakdown
+    ensures { SegmentParted (segment_parts_by kept.ranged.segment (ground_mark kept.ranged.segment)) result }
 {
-    let path = path_step(s, m);
+    let path = path_step(kept);
+    let ranged = kept.ranged;
+    let s = ranged.segment;
     SegmentBreakdown {
-        distance: distance::distance_step(s),
-        air: air::air_step(s),
-        angle: angle::angle_step(s),
-        opposite: opposite::opposite_step(s),
+        distance: distance::distance_step(ranged),
+        air: air::air_step(ranged),
+        angle: angle::angle_step(ranged),
+        opposite: opposite::opposite_step(kept),
         path: path.tenths,
         close: path.close,
         facade: facade::facade_figure(s),
@@ -100,24 +94,14 @@ fn parts_of(s: Segment, m: u64) -> SegmentBreakdown
 }
 
 // The parts of a segment; nothing of a refused one.
+#[tactic(auto, unfolding(crate::specs::Private::Judges), using(crate::proofs::SegmentSum::accepted_parts, crate::proofs::SegmentSum::refused_parts, crate::proofs::SegmentSum::mark_allowed))]
 pub fn segment_breakdown_of(s: Segment) -> SegmentBreakdown
     ensures is { SegmentParted (segment_breakdown_of s) result }
     ensures allowed { SegmentMark s result.close }
 {
     match check::judge(s) {
-        Judged::Kept(m) => parts_of(s, m),
-        Judged::Refused(_) => SegmentBreakdown {
-            distance: 0,
-            air: 0,
-            angle: 0,
-            opposite: 0,
-            path: 0,
-            close: false,
-            facade: 0,
-            chart: 0,
-            track: 0,
-            ballast: 0,
-        },
+        Ok(kept) => parts_of(kept),
+        Err(_) => SegmentBreakdown::default(),
     }
 }
 
@@ -142,36 +126,15 @@ fn sum_of(b: SegmentBreakdown) -> Propagation
     }
 }
 
-// A refusal, with nothing added.
-pub fn refusal_judgement(refusal: Refusal) -> Judgement
-    ensures is { result ≡ refusal_judgement refusal }
-    ensures number { check_number result.check ≡ number_of refusal }
-{
-    Judgement {
-        check: Check::Refused(refusal),
-        propagation: Propagation {
-            tenths: 0,
-            close: false,
-        },
-    }
-}
-
-// The first line that a segment does not keep, and what it adds; nothing of a refused one.
-pub fn judged(s: Segment) -> Judgement
+// What a segment adds, or the first line that it does not keep.
+#[tactic(auto, unfolding(crate::specs::Private::Judges, crate::specs::Propagation::judgement_of, figures::specs::Refusal::answered), using(crate::proofs::SegmentSum::judged_kept, crate::proofs::SegmentSum::judged_allowed, crate::proofs::SegmentSum::judged_number))]
+pub fn judged(s: Segment) -> Result<Propagation, Refusal>
     ensures is { result ≡ judgement_of s }
-    ensures allowed { JudgementAllowed s result }
-    ensures number { check_number result.check ≡ lowest_number (segment_lines s) }
+    ensures allowed { IfOk result (λ added. SegmentMark s added.close) }
+    ensures number { check_number (check_of result) ≡ lowest_number (segment_lines s) }
 {
-    match check::judge(s) {
-        Judged::Kept(m) => {
-            let parts = parts_of(s, m);
-            Judgement {
-                check: Check::Accepted,
-                propagation: sum_of(parts),
-            }
-        }
-        Judged::Refused(refusal) => refusal_judgement(refusal),
-    }
+    let kept = check::judge(s)?;
+    Ok(sum_of(parts_of(kept)))
 }
 
 // What a segment adds; nothing of a refused one.
@@ -179,6 +142,5 @@ pub fn propagation_of(s: Segment) -> Propagation
     ensures is { result ≡ propagation_of s }
     ensures allowed { SegmentMark s result.close }
 {
-    let found = judged(s);
-    found.propagation
+    judged(s).unwrap_or_default()
 }

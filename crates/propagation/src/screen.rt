@@ -3,11 +3,12 @@ ghost use Rattle.std.specs.Prelude.{◌≡◌, true, false, ◌≤◌, ◌-ℤ�
 ghost use Rattle.decibel.specs.Round.{nearest};
 ghost use Rattle.figures.specs.Geometry.{slant, slant_square};
 ghost use Rattle.figures.specs.Rules.{unscreened};
-ghost use Rattle.figures.specs.Private.{Exactly, Ranged};
+ghost use Rattle.figures.specs.Private.{Exactly};
 ghost use Rattle.propagation.specs.Screen.{most_shadow, path_difference, screen_formula, wall_metres, screen_fence};
-ghost use Rattle.propagation.specs.Private.{Ranges, Differs, Length};
+ghost use Rattle.propagation.specs.Private.{Differs, Length};
 
-use figures::{Segment, in_shadow, natural, slant_of};
+use crate::kept::{InRange, Kept};
+use figures::{in_shadow, natural, slant_of};
 
 // 2.5 m in ten-millionths of a metre, the most in shadow.
 pub(crate) const MOST_SHADOW: u64 = 25000000;
@@ -24,36 +25,35 @@ fn length_of(n: u64) -> u64
 }
 
 // Source to screen top.
-fn to_top(s: Segment) -> u64
-    requires { Ranged s }
-    ensures { Length (slant s.setback s.top) result }
+fn to_top(ranged: InRange) -> u64
+    ensures { Length (slant ranged.segment.setback ranged.segment.top) result }
 {
+    let s = ranged.segment;
     length_of(slant_of(s.setback, s.top))
 }
 
 // Screen top to window.
-fn from_top(s: Segment) -> u64
-    requires { Ranged s }
-    ensures { Length (slant (s.distance -ℤ s.setback) (s.height -ℤ s.top)) result }
+fn from_top(ranged: InRange) -> u64
+    ensures { Length (slant (ranged.segment.distance -ℤ ranged.segment.setback) (ranged.segment.height -ℤ ranged.segment.top)) result }
 {
+    let s = ranged.segment;
     length_of(slant_of(s.distance - s.setback, s.height - s.top))
 }
 
 // Source to window.
-fn direct(s: Segment) -> u64
-    requires { Ranged s }
-    ensures { Length (slant_square s) result }
+fn direct(ranged: InRange) -> u64
+    ensures { Length (slant_square ranged.segment) result }
 {
+    let s = ranged.segment;
     length_of(slant_of(s.distance, s.height))
 }
 
 // How much longer the way over the screen's top is than the direct one.
-fn path_difference(s: Segment) -> u64
-    requires { Ranged s }
-    ensures { result ≡ path_difference s }
+fn path_difference(ranged: InRange) -> u64
+    ensures { result ≡ path_difference ranged.segment }
 {
-    let over = to_top(s) + from_top(s);
-    let straight = direct(s);
+    let over = to_top(ranged) + from_top(ranged);
+    let straight = direct(ranged);
     if over < straight {
         return 0;
     }
@@ -61,14 +61,13 @@ fn path_difference(s: Segment) -> u64
 }
 
 // The same, taken only where there is a screen.
-pub(crate) fn difference_of(s: Segment) -> u64
-    requires { Ranged s }
-    ensures { Differs s result }
+pub(crate) fn difference_of(ranged: InRange) -> u64
+    ensures { Differs ranged.segment result }
 {
-    if figures::is_unscreened(s) {
+    if figures::is_unscreened(ranged.segment) {
         return 0;
     }
-    path_difference(s)
+    path_difference(ranged)
 }
 
 // The formulas, for a path difference of m.
@@ -86,11 +85,10 @@ fn screen_by(shaded: bool, m: u64) -> i32
 }
 
 // The far wall's height in metres; a lower one than LEAST_WALL does nothing.
-fn wall_metres(s: Segment) -> u64
-    requires { Ranged s }
-    ensures { result ≡ wall_metres s }
+fn wall_metres(ranged: InRange) -> u64
+    ensures { result ≡ wall_metres ranged.segment }
 {
-    let height = natural(s.wall);
+    let height = natural(ranged.segment.wall);
     if height < LEAST_WALL {
         return 0;
     }
@@ -98,12 +96,13 @@ fn wall_metres(s: Segment) -> u64
 }
 
 // The screen, in shadow or illuminated, with the far wall's loss of 5 tenths a metre. Only a step with a loss is cut at zero.
-pub(crate) fn screen_step(s: Segment, m: u64) -> i32
-    requires { Ranges s × (Differs s m × (unscreened s ≡ false)) }
-    ensures { Exactly (nearest (screen_fence s)) result }
+pub(crate) fn screen_step(kept: Kept) -> i32
+    requires { unscreened kept.ranged.segment ≡ false }
+    ensures { Exactly (nearest (screen_fence kept.ranged.segment)) result }
 {
-    let step = screen_by(in_shadow(s), m);
-    let metres = wall_metres(s);
+    let ranged = kept.ranged;
+    let step = screen_by(in_shadow(ranged.segment), kept.difference);
+    let metres = wall_metres(ranged);
     if metres < 1 {
         return step;
     }

@@ -5,11 +5,13 @@ ghost use Rattle.std.specs.Prelude.{◌≤◌, length, IfOk};
 
 use std::io;
 use std::io::Read;
+use words::Notice;
 
 // The system's number for a read where nothing is open.
 const EBADF: i32 = 9;
 
-// Reads until the buffer is full or the input ends, and answers how much was read.
+// Reads until the buffer is full or the input ends, and answers how much was read. The loop counts by hand, since std's `read_to_end`
+// allocates and the program has no heap, and `read_exact` refuses a text shorter than the buffer.
 fn read_full(input: &mut impl Read, buffer: &mut [u8]) -> io::Result<usize>
     ensures { IfOk result (λ n. n ≤ length buffer.new) }
 {
@@ -32,14 +34,11 @@ fn main(rt: HostRuntime) -> io::Result<()> {
         Err(error) if error.raw_os_error() == Some(EBADF) => 0,
         read => read?,
     };
-    // Room for every report and every notice.
-    let mut out = [0u8; 96];
-    let mut notice = [0u8; 450];
-    let written = report::report(&text[..length], &mut out, &mut notice);
-    let count = written.output;
-    let told = written.notice;
+    let outcome = report::report(&text[..length]);
     // The notice is written even where the report could not be.
-    let shown = rt.stdout().write_all(&out[..count]);
-    rt.stderr().write_all(&notice[..told])?;
+    let shown = rt.stdout().print(outcome);
+    if let Err(fault) = outcome.0 {
+        rt.stderr().print(Notice(fault))?;
+    }
     shown
 }

@@ -1,19 +1,18 @@
 -- Demand 3 for what C gets.
 -- Assumes nothing.
-use mathlib.Core.Path.{◌≡◌, refl, sym, ap, ◌∙◌, subst}
+use mathlib.Core.Path.{◌≡◌, refl, sym, ◌∙◌, subst}
 use mathlib.Core.List.{List}
 use Prim.Native.Nat.{ℕ, ◌≤◌}
 use lib.IntN.{ℤ}
 use lib.ListN.{length}
 use Rattle.figures.specs.declared.Period.{Period}
 use Rattle.figures.specs.declared.Period.TheVariants.{Day, Night}
-use Rattle.figures.specs.declared.Check.TheVariants.{Accepted}
-use Rattle.figures.specs.Refusal.{check_number}
-use Rattle.request.specs.declared.Answer.{Answer}
+use Rattle.figures.specs.Periods.{in_period}
+use Rattle.figures.specs.Refusal.{answered}
 use Rattle.study.specs.Add.{ours}
-use Rattle.study.specs.Plan.{Plan, plan_of}
+use Rattle.study.specs.Plan.{Plan}
 use Rattle.request.specs.Levels.{own_marks}
-use Rattle.request.specs.Request.{cells_needed, levels_check, answer_by, Answered, result_in, answer_of}
+use Rattle.request.specs.Request.{Answer, cells_needed, levels_check, answer_by, Answered, result_in, answer_of}
 use Rattle.study.proofs.Runs.{run-accepted}
 use Rattle.request.proofs.Demand3.{request_answered, ours_fit}
 use Rattle.text.specs.Text.{read_text}
@@ -27,15 +26,18 @@ use Rattle.c_values.specs.Values.{exported_period}
 use Rattle.c_values.proofs.Accuracy.{exported_accurate}
 use Rattle.railnoise_c.specs.Exported.{exported, Called}
 use Rattle.railnoise_c.specs.Accuracy.{listed_in, period_in, AnswerAccurate, CallAccurate}
+use Rattle.std.specs.Prelude.{Ok, Err}
 
-period_exported : (p : Period) (line : ℕ) (a : Answer) → period_in p (exported (at_line line a)) ≡ exported_period (result_in p a)
-unfolding period_in exported result_in
-period_exported Day line a = refl
-period_exported Night line a = refl
+period_exported : (p : Period) (a : Answer) → period_in p (exported (at_line 0 a)) ≡ exported_period (result_in p a)
+unfolding period_in exported result_in in_period
+period_exported Day (Ok both) = refl
+period_exported Night (Ok both) = refl
+period_exported Day (Err why) = refl
+period_exported Night (Err why) = refl
 
-module _ (text : List ℕ) (before after : List ℤ) (r : RailnoiseAnswer) (call : Called text before after r) (ok : (read_text ours text).check ≡ Accepted) where
+module _ (text : List ℕ) (before after : List ℤ) (r : RailnoiseAnswer) (call : Called text before after r) (ok : (read_text ours text).check ≡ Ok tt) where
   abbrev plan : Plan
-  plan = plan_of (read_text ours text).study
+  plan = (read_text ours text).study
 
   abbrev answer : Answer
   answer = answer_by (levels_check plan (length before)) plan (own_marks plan)
@@ -44,27 +46,27 @@ module _ (text : List ℕ) (before after : List ℤ) (r : RailnoiseAnswer) (call
   unfolding text_answer answer_with
   whole = rw (ok, accepted_line ours text ok) at call.answer
 
-  answered : Answered (read_text ours text).study before after answer
+  answered_is : Answered plan before after answer
   unfolding cells_with
-  answered = record { by = record { cells = rw ok at call.cells; answer = refl }; allowed = call.allowed }
+  answered_is = record { by = record { cells = rw ok at call.cells; answer = refl }; allowed = call.allowed }
 
   plan_is : plan ≡ listed_in text
   unfolding listed_in
-  plan_is = ap plan_of (accepted_text_is_run ours text ok) ∙ run-accepted ours ours_fit (additions_of ours text)
+  plan_is = accepted_text_is_run ours text ok ∙ run-accepted ours (additions_of ours text)
 
   module _ (enough : cells_needed (length (listed_in text).entries) ≤ length before) where
-    check_is : levels_check plan (length before) ≡ Accepted
+    check_is : levels_check plan (length before) ≡ Ok tt
     unfolding listed_in
-    check_is = rw plan_is (request_answered (listed_in text) (length before) (accepted_text_has_entry ours ours_fit text ok) enough)
+    check_is = rw plan_is (request_answered (listed_in text) (length before) (accepted_text_has_entry ours text ok) enough)
 
     accurate : AnswerAccurate (listed_in text) r
-    unfolding exported listed_in answer_of check_number
+    unfolding exported listed_in answer_of answered
     accurate =
         subst (AnswerAccurate (listed_in text)) (sym whole)
         (record {
           refusal = rw check_is refl;
-          line = refl;
-          period = λ p trains. rw (period_exported p 0 answer) (exported_accurate p (listed_in text) (result_in p answer) (text_accurate ours ours_fit text ok p trains before after answer enough answered));
+          line = rw check_is refl;
+          period = λ p trains. rw (period_exported p answer) (exported_accurate p (listed_in text) (result_in p answer) (text_accurate ours ours_fit text ok p trains before after answer enough answered_is));
         })
 
 pub call_accurate : CallAccurate

@@ -1,9 +1,8 @@
 -- Demand 3 for what C gets: how far the level of each period lies from the bare level of what the text alone has accepted.
 -- Assumes nothing.
-use Rattle.std.specs.Prelude.{◌≡◌, true, List, ℕ, ◌≤◌, ℤ, length}
+use Rattle.std.specs.Prelude.{◌≡◌, true, List, ℕ, ◌≤◌, ℤ, length, Ok}
 use Rattle.figures.specs.declared.Period.{Period}
 use Rattle.figures.specs.declared.Period.TheVariants.{Day, Night}
-use Rattle.figures.specs.declared.Check.TheVariants.{Accepted}
 use Rattle.study.specs.Plan.{Plan}
 use Rattle.study.specs.Add.{ours}
 use Rattle.study.specs.Run.{accepted}
@@ -36,5 +35,5 @@ pub record AnswerAccurate (plan : Plan) (r : RailnoiseAnswer) : Type 0 where
 abbrev pub CallAccurate : Type 0
 CallAccurate =
     (text : List ℕ) (before after : List ℤ) (r : RailnoiseAnswer) → Called text before after r →
-    (read_text ours text).check ≡ Accepted → cells_needed (length (listed_in text).entries) ≤ length before →
+    (read_text ours text).check ≡ Ok tt → cells_needed (length (listed_in text).entries) ≤ length before →
     AnswerAccurate (listed_in text) r

@@ -5,9 +5,11 @@ ghost use Rattle.std.specs.Prelude.{◌≡◌};
 ghost use Rattle.railnoise_c.specs.Exported.{exported, Called};
 
 use c_values::{RailnoisePeriod, line_value, period_value};
-use text::TextAnswer;
+use figures::Periods;
+use request::PeriodResult;
+use text::Fault;
 
-// `railnoise_answer`: refusal 0 when answered; line 0 where none is at fault.
+// `railnoise_answer`, with numbers for C: refusal 0 when answered; line 0 where none is at fault.
 #[repr(C)]
 #[derive(Clone, Copy)]
 pub struct RailnoiseAnswer {
@@ -17,17 +19,23 @@ pub struct RailnoiseAnswer {
     pub night: RailnoisePeriod,
 }
 
-fn answer_of(answer: TextAnswer) -> RailnoiseAnswer
+#[tactic(auto, unfolding(crate::specs::Exported::exported))]
+fn answer_of(answer: Result<Periods<PeriodResult>, Fault>) -> RailnoiseAnswer
     ensures { result ≡ exported answer }
 {
-    let check = answer.check;
-    let refusal = figures::check_number(check);
-    let at = line_value(answer.line);
-    RailnoiseAnswer {
-        refusal: refusal,
-        line: at,
-        day: period_value(answer.day),
-        night: period_value(answer.night),
+    match answer {
+        Ok(results) => RailnoiseAnswer {
+            refusal: 0,
+            line: 0,
+            day: period_value(results.day),
+            night: period_value(results.night),
+        },
+        Err(fault) => RailnoiseAnswer {
+            refusal: u32::from(fault.refusal),
+            line: line_value(fault.line),
+            day: RailnoisePeriod::silent(),
+            night: RailnoisePeriod::silent(),
+        },
     }
 }
 

@@ -1,6 +1,6 @@
 -- Demand 3 for what C gets of two texts.
 -- Assumes nothing.
-use mathlib.Core.Path.{◌≡◌, refl, sym, ap₂, ◌∙◌, subst}
+use mathlib.Core.Path.{◌≡◌, refl, sym, ap, ap₂, ◌∙◌, subst}
 use mathlib.Core.List.{List}
 use Prim.Native.Nat.{ℕ, ◌≤◌, ◌<◌}
 use native.Mathlib.Omega.{arith}
@@ -8,17 +8,15 @@ use lib.IntN.{ℤ}
 use lib.ListN.{length}
 use Rattle.figures.specs.declared.Period.{Period}
 use Rattle.figures.specs.declared.Period.TheVariants.{Day, Night}
-use Rattle.figures.specs.declared.Check.TheVariants.{Accepted}
-use Rattle.figures.specs.Refusal.{check_number, first_refused}
-use Rattle.study.specs.declared.Added.{Added}
-use Rattle.study.specs.Plan.{Plan, plan_of}
-use Rattle.study.specs.Add.{ours}
+use Rattle.figures.specs.Periods.{in_period}
+use Rattle.figures.specs.Refusal.{answered, first_refused}
+use Rattle.study.specs.Plan.{Plan}
+use Rattle.study.specs.Add.{Added, ours}
 use Rattle.study.specs.Run.{Addition, run, kept, accepted}
 use Rattle.study.proofs.Runs.{run-accepted}
-use Rattle.request.specs.declared.Answer.{Answer}
 use Rattle.request.specs.Levels.{own_marks}
-use Rattle.request.specs.Request.{cells_needed, levels_check, answer_of, answer_by, AnsweredBy, result_in}
-use Rattle.request.proofs.Demand3.{request_answered, ours_fit}
+use Rattle.request.specs.Request.{Answer, cells_needed, levels_check, answer_of, answer_by, AnsweredBy, result_in}
+use Rattle.request.proofs.Demand3.{request_answered}
 use Rattle.text.specs.Text.{read_text}
 use Rattle.text.specs.Additions.{additions_of}
 use Rattle.text.specs.Answer.{cells_with}
@@ -35,13 +33,16 @@ use Rattle.c_values.proofs.Accuracy.{exported_accurate}
 use Rattle.railnoise_requests_c.specs.declared.RailnoiseMergedAnswer.{RailnoiseMergedAnswer}
 use Rattle.railnoise_requests_c.specs.Merged.{exported_merged, MergedCalled}
 use Rattle.railnoise_requests_c.specs.Accuracy.{both_in, merged_period_in, MergedAccurate, MergedCallAccurate}
+use Rattle.std.specs.Prelude.{Ok, Err}
 
 period_exported : (p : Period) (a : Answer) → merged_period_in p (exported_merged (told_at 0 0 a)) ≡ exported_period (result_in p a)
-unfolding merged_period_in exported_merged result_in
-period_exported Day a = refl
-period_exported Night a = refl
+unfolding merged_period_in exported_merged result_in in_period
+period_exported Day (Ok both) = refl
+period_exported Night (Ok both) = refl
+period_exported Day (Err why) = refl
+period_exported Night (Err why) = refl
 
-module _ (first second : List ℕ) (ok : (read_text ours first).check ≡ Accepted) (also : (read_text ours second).check ≡ Accepted) where
+module _ (first second : List ℕ) (ok : (read_text ours first).check ≡ Ok tt) (also : (read_text ours second).check ≡ Ok tt) where
   abbrev xs : List Addition
   xs = additions_of ours first
 
@@ -53,22 +54,22 @@ module _ (first second : List ℕ) (ok : (read_text ours first).check ≡ Accept
   both_is = ap₂ (merged ours) (accepted_text_is_run ours first ok) (accepted_text_is_run ours second also)
 
   module _ (few : length (both_in first second).segments ≤ ours.segments) (fewer : length (both_in first second).entries ≤ ours.entries) where
-    within : merge_check ours (accepted ours xs) (accepted ours ys) ≡ Accepted
+    within : merge_check ours (accepted ours xs) (accepted ours ys) ≡ Ok tt
     unfolding both_in
     within =
         let a = accepted ours xs in
         let b = accepted ours ys in
         room_accepts ours a b (record { segments = omega (arith, joined_count a b); entries = omega (arith, joined_total a b) })
 
-    check_is : (merged_of first second).check ≡ Accepted
-    check_is = rw both_is (merged_check ours (run ours xs) (run ours ys) ∙ rw (run-accepted ours ours_fit xs, run-accepted ours ours_fit ys) within)
+    check_is : (merged_of first second).check ≡ Ok tt
+    check_is = rw both_is (merged_check ours (run ours xs) (run ours ys) ∙ rw (run-accepted ours xs, run-accepted ours ys) within)
 
     plan_is : merged_plan ours (accepted ours xs) (accepted ours ys) ≡ both_in first second
     unfolding merged_plan kept both_in
     plan_is = rw within
 
     holds : merged_plan_in first second ≡ both_in first second
-    holds = rw both_is (lists ours ours_fit xs ys ∙ plan_is)
+    holds = ap (λ (both : Added). both.study) both_is ∙ (lists ours xs ys ∙ plan_is)
 
     module _ (before after : List ℤ) (r : RailnoiseMergedAnswer) (call : MergedCalled first second before after r) (enough : cells_needed (length (both_in first second).entries) ≤ length before) where
       abbrev plan : Plan
@@ -81,26 +82,26 @@ module _ (first second : List ℕ) (ok : (read_text ours first).check ≡ Accept
       unfolding merged_answer
       whole = call.answer ∙ rw (ok, also, check_is)
 
-      answered : AnsweredBy plan (own_marks plan) before after answer
+      request_is : AnsweredBy plan (own_marks plan) before after answer
       unfolding texts_check first_refused cells_with
-      answered = record { cells = rw (ok, also, check_is) at call.cells; answer = refl }
+      request_is = record { cells = rw (ok, also, check_is) at call.cells; answer = refl }
 
       some : 0 < length (both_in first second).entries
       unfolding both_in
-      some = omega (arith, joined_total (accepted ours xs) (accepted ours ys), accepted_text_has_entry ours ours_fit first ok)
+      some = omega (arith, joined_total (accepted ours xs) (accepted ours ys), accepted_text_has_entry ours first ok)
 
-      answered_runs : AnsweredBy (plan_of (merged ours (run ours xs) (run ours ys)).study) (own_marks plan) before after answer
-      answered_runs = subst (λ (both : Added). AnsweredBy (plan_of both.study) (own_marks plan) before after answer) both_is answered
+      answered_runs : AnsweredBy ((merged ours (run ours xs) (run ours ys)).study) (own_marks plan) before after answer
+      answered_runs = subst (λ (both : Added). AnsweredBy (both.study) (own_marks plan) before after answer) both_is request_is
 
       accurate : MergedAccurate (both_in first second) r
-      unfolding exported_merged answer_of check_number
+      unfolding exported_merged answer_of answered
       accurate =
-          let check : levels_check plan (length before) ≡ Accepted = rw holds (request_answered (both_in first second) (length before) some enough) in
+          let check : levels_check plan (length before) ≡ Ok tt = rw holds (request_answered (both_in first second) (length before) some enough) in
           subst (MergedAccurate (both_in first second)) (sym whole)
           (record {
             refusal = rw check refl;
-            text = refl;
-            line = refl;
+            text = rw check refl;
+            line = rw check refl;
             period = λ p trains.
                 rw (period_exported p answer)
                 (exported_accurate p (both_in first second) (result_in p answer)

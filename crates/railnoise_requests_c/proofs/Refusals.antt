@@ -7,19 +7,15 @@ use Prim.Native.Nat.{ℕ, ◌≤◌, ◌<◌}
 use native.Mathlib.Omega.{arith}
 use Rattle.figures.specs.declared.Refusal.{Refusal}
 use Rattle.figures.specs.declared.Refusal.TheVariants as R
-use Rattle.figures.specs.declared.Check.{Check}
-use Rattle.figures.specs.declared.Check.TheVariants.{Accepted, Refused}
-use Rattle.figures.specs.Refusal.{number_of, check_number}
-use Rattle.study.specs.Plan.{empty_study}
+use Rattle.figures.specs.Refusal.{number_of, check_number, check_of, answered, Check}
 use Rattle.study.specs.Add.{ours}
-use Rattle.text.specs.declared.Reading.{Reading}
-use Rattle.text.specs.Text.{read_text}
+use Rattle.text.specs.Text.{Reading, read_text}
 use Rattle.text.proofs.Refusals.{text_refusal_is_own}
-use Rattle.entitlement.specs.declared.Lines.{Lines}
-use Rattle.entitlement.specs.Entitlement.{refused_entitlement, entitlement_by, entitlement_of}
+use Rattle.entitlement.specs.Entitlement.{Lines, entitlement_of}
 use Rattle.railnoise_requests_c.specs.declared.RailnoiseEntitlementAnswer.{RailnoiseEntitlementAnswer}
 use Rattle.railnoise_requests_c.specs.Entitlement.{exported_entitlement, Source, source_check, given_lines, ended_by, read_at, layout_of, entitlement_in, as_looked_at, EntitlementCalls}
 use Rattle.railnoise_requests_c.proofs.Calls.{kept_all}
+use Rattle.std.specs.Prelude.{Some, None, Ok, Err}
 
 -- no refusal has the number 0
 pub number_some : (r : Refusal) → 0 < number_of r
@@ -55,28 +51,28 @@ source_own : (s : Source) → check_number (source_check s) ≤ 13
 unfolding source_check check_number
 source_own s = go s.empty
   where
-    go : (b : Bool) → check_number (cond b Accepted (read_text ours s.text).check) ≤ 13
+    go : (b : Bool) → check_number (cond b (Ok tt) (read_text ours s.text).check) ≤ 13
     go true = omega arith
     go false = text_refusal_is_own ours s.text
 
 -- one text before others
-read_sound : (place : ℕ) (s : Source) (rest : RailnoiseEntitlementAnswer) → 0 < place → (source_check s ≡ Accepted → Sound rest) → Sound (read_at place s rest)
-unfolding read_at exported_entitlement refused_entitlement check_number
+read_sound : (place : ℕ) (s : Source) (rest : RailnoiseEntitlementAnswer) → 0 < place → (source_check s ≡ Ok tt → Sound rest) → Sound (read_at place s rest)
+unfolding read_at exported_entitlement check_of check_number
 read_sound place s rest some sound = go (source_check s) refl
   where
     line : ℕ
     line = (read_text ours s.text).line
 
     go : (k : Check) → source_check s ≡ k → Sound (ended_by k place line rest)
-    go Accepted e = sound e
-    go (Refused why) e =
-        let small : check_number (Refused why) ≤ 13 = rw e at (source_own s) in
+    go (Ok _) e = sound e
+    go (Err why) e =
+        let small : check_number (Err why) ≤ 13 = rw e at (source_own s) in
         let n = number_some why in
         record { own = small; none_refused = λ z. absurd (omega arith); none_told = λ z. absurd (omega arith) }
 
 module _ (a b c d : Source) where
-  answer_sound : source_check a ≡ Accepted → source_check b ≡ Accepted → source_check c ≡ Accepted → source_check d ≡ Accepted → Sound (exported_entitlement (entitlement_of (layout_of a c) (layout_of b d)) 0 0)
-  unfolding exported_entitlement entitlement_of entitlement_by check_number
+  answer_sound : source_check a ≡ Ok tt → source_check b ≡ Ok tt → source_check c ≡ Ok tt → source_check d ≡ Ok tt → Sound (exported_entitlement (entitlement_of (layout_of a c) (layout_of b d)) 0 0)
+  unfolding exported_entitlement entitlement_of answered check_of check_number
   answer_sound e f g h = rw (kept_all a b c d e f g h) (record { own = omega arith; none_refused = λ _. refl; none_told = λ _. refl })
 
   call_sound : Sound (entitlement_in a b c d)
@@ -90,7 +86,7 @@ lines_unread : (s : Source) → given_lines s ≡ given_lines (as_looked_at s)
 unfolding given_lines
 lines_unread s = go s.empty
   where
-    go : (b : Bool) → ◌≡◌ {A = Lines} (record { empty = b; study = cond b empty_study (read_text ours s.text).study }) (record { empty = b; study = cond b empty_study (read_text ours (cond b [] s.text)).study })
+    go : (b : Bool) → ◌≡◌ {A = Lines} (cond b None (Some (read_text ours s.text).study)) (cond b None (Some (read_text ours (cond b [] s.text)).study))
     go true = refl
     go false = refl
 
@@ -101,7 +97,7 @@ read_unread place s rest = go s.empty
     read : Bool → Reading
     read b = read_text ours (cond b [] s.text)
 
-    go : (b : Bool) → ended_by (cond b Accepted (read_text ours s.text).check) place (read_text ours s.text).line rest ≡ ended_by (cond b Accepted (read b).check) place (read b).line rest
+    go : (b : Bool) → ended_by (cond b (Ok tt) (read_text ours s.text).check) place (read_text ours s.text).line rest ≡ ended_by (cond b (Ok tt) (read b).check) place (read b).line rest
     go true = refl
     go false = refl
 

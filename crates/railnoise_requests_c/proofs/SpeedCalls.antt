@@ -10,67 +10,59 @@ use lib.IntN.{ℤ}
 use Rattle.figures.specs.declared.Period.{Period}
 use Rattle.figures.specs.declared.Refusal.{Refusal}
 use Rattle.figures.specs.declared.Refusal.TheVariants.{EntryNumber, NoSpeed}
-use Rattle.figures.specs.declared.Check.{Check}
-use Rattle.figures.specs.declared.Check.TheVariants.{Accepted, Refused}
-use Rattle.figures.specs.Refusal.{number_of, check_number}
-use Rattle.study.specs.Plan.{Plan, plan_of}
+use Rattle.figures.specs.Refusal.{number_of, check_number, Check}
+use Rattle.study.specs.Plan.{Plan}
 use Rattle.study.specs.Add.{ours}
 use Rattle.study.specs.Run.{accepted}
 use Rattle.study.proofs.Runs.{run-accepted}
-use Rattle.request.proofs.Demand3.{ours_fit}
 use Rattle.text.specs.Text.{read_text}
 use Rattle.text.specs.Additions.{additions_of}
 use Rattle.text.specs.Answer.{plan_in}
 use Rattle.text.proofs.Runs.{accepted_text_is_run, accepted_line, text_held}
 use Rattle.text.proofs.Refusals.{text_refusal_is_own}
-use Rattle.speeds.specs.Speeds.{speed_answer}
+use Rattle.speeds.specs.Speeds.{SpeedAnswer, speed_answer}
 use Rattle.speeds.specs.Laws.{IsEntry, BelowAt, Highest}
 use Rattle.speeds.proofs.Laws.{speed_laws}
-use Rattle.text_speeds.specs.declared.TextSpeed.{TextSpeed}
-use Rattle.text_speeds.specs.TextSpeeds.{speed_at_line, speed_with, text_speed}
-use Rattle.c_values.specs.Values.{line_value}
+use Rattle.text_speeds.specs.TextSpeeds.{refused_speed, speed_at_line, speed_with, text_speed}
 use Rattle.railnoise_requests_c.specs.declared.RailnoiseSpeedAnswer.{RailnoiseSpeedAnswer}
 use Rattle.railnoise_requests_c.specs.Speed.{period_by, exported_speed, SpeedCalled, SpeedSafe, OfAcceptedText, SpeedCalls}
 use Rattle.railnoise_requests_c.proofs.Refusals.{number_some}
+use Rattle.std.specs.Prelude.{Ok, Err}
 
 -- an accepted text's plan is what its lines alone list
-listed_is : (text : List ℕ) → (read_text ours text).check ≡ Accepted → plan_in text ≡ accepted ours (additions_of ours text)
-listed_is text ok = ap plan_of (accepted_text_is_run ours text ok) ∙ run-accepted ours ours_fit (additions_of ours text)
+listed_is : (text : List ℕ) → (read_text ours text).check ≡ Ok tt → plan_in text ≡ accepted ours (additions_of ours text)
+listed_is text ok = accepted_text_is_run ours text ok ∙ run-accepted ours (additions_of ours text)
 
 module _ (text : List ℕ) (entry : ℕ) (p : Period) (limit : ℤ) where
   -- a refused text, and an accepted one
-  refused_is : (why : Refusal) → (read_text ours text).check ≡ Refused why → ((exported_speed (text_speed text entry p limit)).refusal ≡ number_of why) × ((exported_speed (text_speed text entry p limit)).speed ≡ 0)
-  unfolding exported_speed text_speed speed_with check_number
-  refused_is why e = (rw e refl, rw e refl)
-
-  accepted_is : (read_text ours text).check ≡ Accepted → text_speed text entry p limit ≡ speed_at_line 0 (speed_answer (plan_in text) entry p limit)
+  refused_is : {why : Refusal} → (read_text ours text).check ≡ Err why → text_speed text entry p limit ≡ refused_speed why (read_text ours text).line
   unfolding text_speed speed_with
-  accepted_is ok = rw (ok, accepted_line ours text ok) refl
+  refused_is e = rw e
+
+  accepted_is : {r : SpeedAnswer} → (read_text ours text).check ≡ Ok tt → speed_answer (plan_in text) entry p limit ≡ r → text_speed text entry p limit ≡ speed_at_line 0 r
+  unfolding text_speed speed_with
+  accepted_is ok is = rw (ok, accepted_line ours text ok, is) refl
 
   -- what is answered of a plan
-  safe_in : (read_text ours text).check ≡ Accepted → (speed_answer (plan_in text) entry p limit).check ≡ Accepted → SpeedSafe (accepted ours (additions_of ours text)) entry p limit (speed_answer (plan_in text) entry p limit).speed
-  safe_in ok e =
+  safe_in : {v : ℕ} → (read_text ours text).check ≡ Ok tt → speed_answer (plan_in text) entry p limit ≡ Ok v → SpeedSafe (accepted ours (additions_of ours text)) entry p limit v
+  safe_in {v} ok e =
       let l = speed_laws in
-      let h = l.answered (plan_in text) entry p limit e in
-      let few = (text_held ours ours_fit text).total in
+      let h = l.answered (plan_in text) entry p limit v e in
+      let few = (text_held ours text).total in
       let same = listed_is text ok in
       record {
         is_entry = subst (λ (q : Plan). IsEntry q entry) same h.0;
-        highest = subst (λ (q : Plan). Highest q entry p limit (speed_answer (plan_in text) entry p limit).speed) same h.1;
-        lower = λ w low high. subst (λ (q : Plan). BelowAt q entry p limit w) same (l.lower (plan_in text) few entry p limit e w low high);
-        bare = λ trains v low high. l.bare (additions_of ours text) entry p limit v trains low high;
+        highest = subst (λ (q : Plan). Highest q entry p limit v) same h.1;
+        lower = λ w low high. subst (λ (q : Plan). BelowAt q entry p limit w) same (l.lower (plan_in text) few entry p limit v e w low high);
+        bare = λ trains w low high. l.bare (additions_of ours text) entry p limit w trains low high;
       }
 
-check_number_lem : {c : Check} {why : Refusal} → c ≡ Refused why → check_number c ≡ number_of why
+check_number_lem : {c : Check} {why : Refusal} → c ≡ Err why → check_number c ≡ number_of why
 unfolding check_number
 check_number_lem e = rw e refl
 
-check_none : {c : Check} → c ≡ Accepted → check_number c ≡ 0
-unfolding check_number
-check_none e = rw e refl
-
 -- a text's own refusal
-own_number : (text : List ℕ) {why : Refusal} → (read_text ours text).check ≡ Refused why → number_of why ≤ 13
+own_number : (text : List ℕ) {why : Refusal} → (read_text ours text).check ≡ Err why → number_of why ≤ 13
 own_number text e = subst (λ (n : ℕ). n ≤ 13) (check_number_lem e) (text_refusal_is_own ours text)
 
 some_number : (why : Refusal) {n : ℕ} → n ≡ number_of why → n ≡ 0 → ⊥
@@ -80,52 +72,41 @@ module _ (text : List ℕ) (entry : ℕ) (night : Bool) (limit : ℤ) (r : Railn
   abbrev p : Period
   p = period_by night
 
-  refusal_is : r.refusal ≡ check_number (text_speed text entry p limit).check
-  unfolding exported_speed
-  refusal_is = ap (λ (x : RailnoiseSpeedAnswer). x.refusal) call.answer
+  -- what C gets of a refused text, and of an accepted one
+  of_refused : {why : Refusal} → (read_text ours text).check ≡ Err why → r ≡ exported_speed (refused_speed why (read_text ours text).line)
+  of_refused e = call.answer ∙ ap exported_speed (refused_is text entry p limit e)
 
-  -- of an accepted text
-  number_in : (read_text ours text).check ≡ Accepted → r.refusal ≡ check_number (speed_answer (plan_in text) entry p limit).check
-  number_in ok = refusal_is ∙ ap (λ (x : TextSpeed). check_number x.check) (accepted_is text entry p limit ok)
-
-  line_in : (read_text ours text).check ≡ Accepted → r.line ≡ 0
-  unfolding exported_speed
-  line_in ok = ap (λ (x : RailnoiseSpeedAnswer). x.line) call.answer ∙ ap (λ (x : TextSpeed). line_value x.line) (accepted_is text entry p limit ok)
-
-  speed_in : (read_text ours text).check ≡ Accepted → r.speed ≡ (speed_answer (plan_in text) entry p limit).speed
-  unfolding exported_speed
-  speed_in ok = ap (λ (x : RailnoiseSpeedAnswer). x.speed) call.answer ∙ ap (λ (x : TextSpeed). x.speed) (accepted_is text entry p limit ok)
-
-  refused_number : (why : Refusal) → (read_text ours text).check ≡ Refused why → r.refusal ≡ number_of why
-  refused_number why e = ap (λ (x : RailnoiseSpeedAnswer). x.refusal) call.answer ∙ (refused_is text entry p limit why e).0
-
-  refused_in : {why : Refusal} → (read_text ours text).check ≡ Accepted → (speed_answer (plan_in text) entry p limit).check ≡ Refused why → r.refusal ≡ number_of why
-  refused_in ok e = number_in ok ∙ check_number_lem e
+  of_plan : {d : SpeedAnswer} → (read_text ours text).check ≡ Ok tt → speed_answer (plan_in text) entry p limit ≡ d → r ≡ exported_speed (speed_at_line 0 d)
+  of_plan ok e = call.answer ∙ ap exported_speed (accepted_is text entry p limit ok e)
 
   answered_law : r.refusal ≡ 0 → (r.line ≡ 0) × SpeedSafe (accepted ours (additions_of ours text)) entry p limit r.speed
-  answered_law z = go (read_text ours text).check refl (speed_answer (plan_in text) entry p limit).check refl
+  unfolding exported_speed
+  answered_law z = go (read_text ours text).check refl (speed_answer (plan_in text) entry p limit) refl
     where
-      go : (c : Check) → (read_text ours text).check ≡ c → (d : Check) → (speed_answer (plan_in text) entry p limit).check ≡ d → (r.line ≡ 0) × SpeedSafe (accepted ours (additions_of ours text)) entry p limit r.speed
-      go (Refused why) e d f = absurd (some_number why (refused_number why e) z)
-      go Accepted e (Refused why) f = absurd (some_number why (refused_in e f) z)
-      go Accepted e Accepted f = (line_in e, rw (speed_in e) (safe_in text entry p limit e f))
+      go : (c : Check) → (read_text ours text).check ≡ c → (d : SpeedAnswer) → speed_answer (plan_in text) entry p limit ≡ d → (r.line ≡ 0) × SpeedSafe (accepted ours (additions_of ours text)) entry p limit r.speed
+      go (Err why) e d f = absurd (some_number why (ap (λ (x : RailnoiseSpeedAnswer). x.refusal) (of_refused e)) z)
+      go (Ok _) e (Err why) f = absurd (some_number why (ap (λ (x : RailnoiseSpeedAnswer). x.refusal) (of_plan e f)) z)
+      go (Ok _) e (Ok v) f =
+          let is = of_plan e f in
+          (ap (λ (x : RailnoiseSpeedAnswer). x.line) is, rw (ap (λ (x : RailnoiseSpeedAnswer). x.speed) is) (safe_in text entry p limit e f))
 
   refused_law : (r.refusal ≡ 0 → ⊥) → (r.speed ≡ 0) × ((r.refusal ≤ 13) ⊎ OfAcceptedText text r)
-  unfolding number_of
-  refused_law some = go (read_text ours text).check refl (speed_answer (plan_in text) entry p limit).check refl
+  unfolding exported_speed number_of
+  refused_law some = go (read_text ours text).check refl (speed_answer (plan_in text) entry p limit) refl
     where
       -- one of the two that a plan is refused with
-      told : {why : Refusal} → (read_text ours text).check ≡ Accepted → (speed_answer (plan_in text) entry p limit).check ≡ Refused why → (why ≡ EntryNumber) ⊎ (why ≡ NoSpeed) → OfAcceptedText text r
-      told ok f (inl e) = record { accepted = ok; line = line_in ok; number = inl (refused_in ok f ∙ ap number_of e) }
-      told ok f (inr e) = record { accepted = ok; line = line_in ok; number = inr (refused_in ok f ∙ ap number_of e) }
+      told : {why : Refusal} → (read_text ours text).check ≡ Ok tt → r ≡ exported_speed (speed_at_line 0 (Err why)) → (why ≡ EntryNumber) ⊎ (why ≡ NoSpeed) → OfAcceptedText text r
+      told ok is (inl e) = record { accepted = ok; line = ap (λ (x : RailnoiseSpeedAnswer). x.line) is; number = inl (ap (λ (x : RailnoiseSpeedAnswer). x.refusal) is ∙ ap number_of e) }
+      told ok is (inr e) = record { accepted = ok; line = ap (λ (x : RailnoiseSpeedAnswer). x.line) is; number = inr (ap (λ (x : RailnoiseSpeedAnswer). x.refusal) is ∙ ap number_of e) }
 
-      go : (c : Check) → (read_text ours text).check ≡ c → (d : Check) → (speed_answer (plan_in text) entry p limit).check ≡ d → (r.speed ≡ 0) × ((r.refusal ≤ 13) ⊎ OfAcceptedText text r)
-      go (Refused why) e d f = (
-        ap (λ (x : RailnoiseSpeedAnswer). x.speed) call.answer ∙ (refused_is text entry p limit why e).1,
-        inl (omega (arith, refused_number why e, own_number text e)),
-      )
-      go Accepted e Accepted f = absurd (some (number_in e ∙ check_none f))
-      go Accepted e (Refused why) f = let l = speed_laws.refused (plan_in text) entry p limit why f in (speed_in e ∙ l.1, inr (told e f l.0))
+      go : (c : Check) → (read_text ours text).check ≡ c → (d : SpeedAnswer) → speed_answer (plan_in text) entry p limit ≡ d → (r.speed ≡ 0) × ((r.refusal ≤ 13) ⊎ OfAcceptedText text r)
+      go (Err why) e d f =
+          let is = of_refused e in
+          (ap (λ (x : RailnoiseSpeedAnswer). x.speed) is, inl (omega (arith, ap (λ (x : RailnoiseSpeedAnswer). x.refusal) is, own_number text e)))
+      go (Ok _) e (Ok v) f = absurd (some (ap (λ (x : RailnoiseSpeedAnswer). x.refusal) (of_plan e f)))
+      go (Ok _) e (Err why) f =
+          let is = of_plan e f in
+          (ap (λ (x : RailnoiseSpeedAnswer). x.speed) is, inr (told e is (speed_laws.refused (plan_in text) entry p limit why f).0))
 
 pub speed_calls : SpeedCalls
 speed_calls = record { answered = answered_law; refused = refused_law }

@@ -1,9 +1,8 @@
 -- Demand 3 for what C gets of two texts: how far the level of each period lies from the bare level of both texts' lists, joined.
 -- Assumes nothing.
-use Rattle.std.specs.Prelude.{◌≡◌, true, List, ℕ, ◌≤◌, ℤ, length}
+use Rattle.std.specs.Prelude.{◌≡◌, true, List, ℕ, ◌≤◌, ℤ, length, Ok}
 use Rattle.figures.specs.declared.Period.{Period}
 use Rattle.figures.specs.declared.Period.TheVariants.{Day, Night}
-use Rattle.figures.specs.declared.Check.TheVariants.{Accepted}
 use Rattle.study.specs.Plan.{Plan}
 use Rattle.study.specs.Add.{ours}
 use Rattle.study.specs.Run.{accepted}
@@ -38,6 +37,6 @@ pub record MergedAccurate (plan : Plan) (r : RailnoiseMergedAnswer) : Type 0 whe
 abbrev pub MergedCallAccurate : Type 0
 MergedCallAccurate =
     (first second : List ℕ) (before after : List ℤ) (r : RailnoiseMergedAnswer) → MergedCalled first second before after r →
-    (read_text ours first).check ≡ Accepted → (read_text ours second).check ≡ Accepted → let plan = both_in first second in
+    (read_text ours first).check ≡ Ok tt → (read_text ours second).check ≡ Ok tt → let plan = both_in first second in
     length plan.segments ≤ ours.segments → length plan.entries ≤ ours.entries → cells_needed (length plan.entries) ≤ length before →
     MergedAccurate plan r

@@ -1,19 +1,16 @@
 -- What the exported function hands to C of four texts, each perhaps marked as empty (02, L2).
 -- Assumes nothing.
-use Rattle.std.specs.Prelude.{◌≡◌, Bool, cond, List, [], ℕ, ◌≤◌}
+use Rattle.std.specs.Prelude.{◌≡◌, Bool, cond, List, [], ℕ, ◌≤◌, Some, None, Result, Ok, Err}
 use Rattle.energy.specs.declared.Total.{Total}
-use Rattle.figures.specs.declared.Check.{Check}
-use Rattle.figures.specs.declared.Check.TheVariants.{Accepted, Refused}
-use Rattle.figures.specs.Refusal.{check_number}
-use Rattle.study.specs.Plan.{empty_study}
+use Rattle.figures.specs.declared.Refusal.{Refusal}
+use Rattle.figures.specs.Refusal.{check_number, check_of, Check}
 use Rattle.study.specs.Add.{ours}
 use Rattle.text.specs.Text.{read_text}
 use Rattle.c_values.specs.Values.{is_silent, tenths_of, line_value}
-use Rattle.entitlement.specs.declared.Lines.{Lines}
 use Rattle.entitlement.specs.declared.Layout.{Layout}
 use Rattle.entitlement.specs.declared.PeriodEntitlement.{PeriodEntitlement}
 use Rattle.entitlement.specs.declared.Entitlement.{Entitlement}
-use Rattle.entitlement.specs.Entitlement.{refused_entitlement, entitlement_of, EntitlementAllowed}
+use Rattle.entitlement.specs.Entitlement.{Lines, shown, entitlement_of, EntitlementAllowed}
 use Rattle.railnoise_requests_c.specs.declared.RailnoiseCombined.{RailnoiseCombined}
 use Rattle.railnoise_requests_c.specs.declared.RailnoiseEntitlementPeriod.{RailnoiseEntitlementPeriod}
 use Rattle.railnoise_requests_c.specs.declared.RailnoiseEntitlementAnswer.{RailnoiseEntitlementAnswer}
@@ -28,9 +25,10 @@ exported_entitlement_period p =
     record { prevailing = exported_combined p.prevailing; relevant = exported_combined p.relevant; reaches = p.reaches; rises = p.rises; contributes = p.contributes; entitled = p.entitled }
 
 -- an answer with the text that was refused and its line at fault, both 0 where none was
-unfoldable pub exported_entitlement : Entitlement → ℕ → ℕ → RailnoiseEntitlementAnswer
-exported_entitlement e text line =
-    record { refusal = check_number e.check; text = text; line = line_value line; day = exported_entitlement_period e.day; night = exported_entitlement_period e.night; entitled = e.entitled }
+unfoldable pub exported_entitlement : Result Entitlement Refusal → ℕ → ℕ → RailnoiseEntitlementAnswer
+exported_entitlement answer text line =
+    let e = shown answer in
+    record { refusal = check_number (check_of answer); text = text; line = line_value line; day = exported_entitlement_period e.day; night = exported_entitlement_period e.night; entitled = e.entitled }
 
 -- ---- four texts
 
@@ -44,20 +42,20 @@ source empty text = record { empty = empty; text = text }
 
 -- "it is then silent and not read"
 unfoldable pub source_check : Source → Check
-source_check s = cond s.empty Accepted (read_text ours s.text).check
+source_check s = cond s.empty (Ok tt) (read_text ours s.text).check
 
 unfoldable pub given_lines : Source → Lines
-given_lines s = record { empty = s.empty; study = cond s.empty empty_study (read_text ours s.text).study }
+given_lines s = cond s.empty None (Some (read_text ours s.text).study)
 
 -- a text that is refused ends the request, with its refusal, its place and its line; else what comes after it
 abbrev pub ended_by : Check → ℕ → ℕ → RailnoiseEntitlementAnswer → RailnoiseEntitlementAnswer
-ended_by Accepted place line rest = rest
-ended_by (Refused why) place line rest = exported_entitlement (refused_entitlement why) place line
+ended_by (Ok _) place line rest = rest
+ended_by (Err why) place line rest = exported_entitlement (Err why) place line
 
 unfoldable pub read_at : ℕ → Source → RailnoiseEntitlementAnswer → RailnoiseEntitlementAnswer
 read_at place s rest = ended_by (source_check s) place (read_text ours s.text).line rest
 
-abbrev pub layout_of : Source → Source → Layout
+abbrev pub layout_of : Source → Source → Layout Lines
 layout_of altered other = record { altered = given_lines altered; other = given_lines other }
 
 -- the altered lines before and after the works, the other lines before and after, in the order of C's parameters

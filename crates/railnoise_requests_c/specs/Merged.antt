@@ -1,17 +1,19 @@
 -- What the exported function hands to C of two texts, and what the caller's cells then hold (02, L5).
 -- Assumes nothing.
-use Rattle.std.specs.Prelude.{◌≡◌, List, ℕ, ℤ, length}
-use Rattle.figures.specs.Refusal.{check_number}
+use Rattle.std.specs.Prelude.{◌≡◌, List, ℕ, ℤ, length, Ok, Err}
+use Rattle.figures.specs.Refusal.{number_of}
 use Rattle.request.specs.Levels.{own_marks, MarksAllowed}
+use Rattle.request.specs.Request.{silent_result}
 use Rattle.text.specs.Answer.{cells_with}
-use Rattle.drawings.specs.declared.MergedAnswer.{MergedAnswer}
-use Rattle.drawings.specs.Drawings.{merged_plan_in, merged_answer, texts_check}
+use Rattle.drawings.specs.Drawings.{MergedAnswer, merged_plan_in, merged_answer, texts_check}
 use Rattle.c_values.specs.Values.{line_value, exported_period}
 use Rattle.railnoise_requests_c.specs.declared.RailnoiseMergedAnswer.{RailnoiseMergedAnswer}
 
+-- both periods, with refusal, text and line 0; or the number of the refusal with the text and the line that it concerns, and silence
 unfoldable pub exported_merged : MergedAnswer → RailnoiseMergedAnswer
-exported_merged a =
-    record { refusal = check_number a.check; text = a.text; line = line_value a.line; day = exported_period a.day; night = exported_period a.night }
+exported_merged (Ok both) = record { refusal = 0; text = 0; line = 0; day = exported_period both.day; night = exported_period both.night }
+exported_merged (Err f) =
+    record { refusal = number_of f.refusal; text = f.text; line = line_value f.line; day = exported_period silent_result; night = exported_period silent_result }
 
 -- the whole of a call: by the program's own marks, and 01 allows these
 pub record MergedCalled (first second : List ℕ) (before after : List ℤ) (r : RailnoiseMergedAnswer) : Type 0 where

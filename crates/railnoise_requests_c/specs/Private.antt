@@ -1,31 +1,34 @@
--- What contracts of this crate's private functions cite: what one text gives.
+-- What contracts of this crate's private functions cite: what one text gives, and how the answer to all four is handed over.
 -- Assumes nothing.
-use Rattle.std.specs.Prelude.{◌≡◌}
+use Rattle.std.specs.Prelude.{◌≡◌, ℕ, Result, Ok, Err}
 use Rattle.decibel.specs.declared.Level.{Level}
 use Rattle.figures.specs.declared.Period.TheVariants.{Day, Night}
-use Rattle.figures.specs.declared.Refusal.{Refusal}
-use Rattle.figures.specs.declared.Check.TheVariants.{Accepted, Refused}
+use Rattle.figures.specs.declared.Periods.{Periods}
 use Rattle.study.specs.Add.{ours}
 use Rattle.text.specs.Text.{read_text}
-use Rattle.entitlement.specs.declared.Change.{Change}
+use Rattle.entitlement.specs.declared.Entitlement.{Entitlement}
 use Rattle.entitlement.specs.Entitlement.{reported_in}
-use Rattle.railnoise_requests_c.specs.declared.TextReport.{TextReport}
-use Rattle.railnoise_requests_c.specs.Entitlement.{Source, source_check, given_lines}
+use Rattle.railnoise_requests_c.specs.declared.RailnoiseEntitlementAnswer.{RailnoiseEntitlementAnswer}
+use Rattle.railnoise_requests_c.specs.declared.TextFault.{TextFault}
+use Rattle.railnoise_requests_c.specs.declared.Given.{Given}
+use Rattle.railnoise_requests_c.specs.Entitlement.{Source, source, source_check, given_lines, exported_entitlement}
 
--- the refusal with its line; without one the level of each period
-pub record TextReports (s : Source) (r : TextReport) : Type 0 where
-  pub check : r.check ≡ source_check s
-  pub line : (why : Refusal) → r.check ≡ Refused why → r.line ≡ (read_text ours s.text).line
-  pub day : r.check ≡ Accepted → r.day ≡ reported_in Day (given_lines s)
-  pub night : r.check ≡ Accepted → r.night ≡ reported_in Night (given_lines s)
+abbrev pub given_source : Given → Source
+given_source g = source g.empty g.text.now
 
--- a period's levels: of the altered lines before and after, and of the other lines before and after
-abbrev pub change_of : Level → Level → Level → Level → Change
-change_of altered_before altered_after other_before other_after =
-    record { before = record { altered = altered_before; other = other_before }; after = record { altered = altered_after; other = other_after } }
+-- a text that is not refused gives the level of each period
+pub record TextGives (s : Source) (r : Periods Level) : Type 0 where
+  pub accepted : source_check s ≡ Ok tt
+  pub day : r.day ≡ reported_in Day (given_lines s)
+  pub night : r.night ≡ reported_in Night (given_lines s)
 
-abbrev pub by_day : TextReport → TextReport → TextReport → TextReport → Change
-by_day first second third fourth = change_of first.day second.day third.day fourth.day
+-- another its refusal with its place and its line
+pub record TextRefused (at : ℕ) (s : Source) (f : TextFault) : Type 0 where
+  pub check : source_check s ≡ Err f.refusal
+  pub place : f.place ≡ at
+  pub line : f.line ≡ (read_text ours s.text).line
 
-abbrev pub by_night : TextReport → TextReport → TextReport → TextReport → Change
-by_night first second third fourth = change_of first.night second.night third.night fourth.night
+-- the answer for C: of the texts' studies, or of the text that is refused
+unfoldable pub exported_told : Result Entitlement TextFault → RailnoiseEntitlementAnswer
+exported_told (Ok e) = exported_entitlement (Ok e) 0 0
+exported_told (Err f) = exported_entitlement (Err f.refusal) f.place f.line

@@ -1,10 +1,9 @@
 -- What the exported function hands to C of a text, an entry of it, a period and a limit (02, L6).
 -- Assumes nothing.
-use Rattle.std.specs.Prelude.{◌≡◌, ◌⊎◌, Bool, true, cond, List, ℕ, ◌-◌, ◌≤◌, ℤ}
+use Rattle.std.specs.Prelude.{◌≡◌, ◌⊎◌, Bool, true, cond, List, ℕ, ◌-◌, ◌≤◌, ℤ, Ok, Err}
 use Rattle.figures.specs.declared.Period.{Period}
 use Rattle.figures.specs.declared.Period.TheVariants.{Day, Night}
-use Rattle.figures.specs.declared.Check.TheVariants.{Accepted}
-use Rattle.figures.specs.Refusal.{check_number}
+use Rattle.figures.specs.Refusal.{number_of}
 use Rattle.figures.specs.Rules.{least_speed, most_speed}
 use Rattle.study.specs.Plan.{Plan}
 use Rattle.study.specs.Add.{ours}
@@ -16,8 +15,7 @@ use Rattle.text.specs.Additions.{additions_of}
 use Rattle.text.specs.Answer.{plan_in}
 use Rattle.speeds.specs.Speeds.{with_speed}
 use Rattle.speeds.specs.Laws.{IsEntry, BelowAt, Highest, BareAt}
-use Rattle.text_speeds.specs.declared.TextSpeed.{TextSpeed}
-use Rattle.text_speeds.specs.TextSpeeds.{text_speed}
+use Rattle.text_speeds.specs.TextSpeeds.{TextSpeed, text_speed}
 use Rattle.c_values.specs.Values.{line_value}
 use Rattle.railnoise_requests_c.specs.declared.RailnoiseSpeedAnswer.{RailnoiseSpeedAnswer}
 
@@ -25,8 +23,10 @@ use Rattle.railnoise_requests_c.specs.declared.RailnoiseSpeedAnswer.{RailnoiseSp
 unfoldable pub period_by : Bool → Period
 period_by night = cond night Night Day
 
+-- the speed, or the number of the refusal with the line that it concerns
 unfoldable pub exported_speed : TextSpeed → RailnoiseSpeedAnswer
-exported_speed a = record { refusal = check_number a.check; line = line_value a.line; speed = a.speed }
+exported_speed (Ok v) = record { refusal = 0; line = 0; speed = v }
+exported_speed (Err f) = record { refusal = number_of f.refusal; line = line_value f.line; speed = 0 }
 
 -- the whole of a call: by the program's own marks, and 01 allows these at every speed
 pub record SpeedCalled (text : List ℕ) (entry : ℕ) (night : Bool) (limit : ℤ) (r : RailnoiseSpeedAnswer) : Type 0 where
@@ -44,7 +44,7 @@ pub record SpeedSafe (plan : Plan) (entry : ℕ) (p : Period) (limit : ℤ) (spe
 
 -- 25 or 26, of an accepted text alone and so without a line
 pub record OfAcceptedText (text : List ℕ) (r : RailnoiseSpeedAnswer) : Type 0 where
-  pub accepted : (read_text ours text).check ≡ Accepted
+  pub accepted : (read_text ours text).check ≡ Ok tt
   pub line : r.line ≡ 0
   pub number : (r.refusal ≡ 25) ⊎ (r.refusal ≡ 26)
 

@@ -1,26 +1,23 @@
 // The later requests for C, over whole texts.
 #![tactic(auto)]
 
-ghost use Rattle.std.specs.Prelude.{◌≡◌};
-ghost use Rattle.entitlement.specs.Entitlement.{refused_entitlement, EntitlementAnsweredBy};
-ghost use Rattle.railnoise_requests_c.specs.Entitlement.{exported_combined, exported_entitlement_period, exported_entitlement, source, EntitlementCalled};
+ghost use Rattle.std.specs.Prelude.{◌≡◌, MatchResult};
+ghost use Rattle.railnoise_requests_c.specs.Entitlement.{exported_combined, exported_entitlement_period, exported_entitlement, source, entitlement_in, EntitlementCalled};
 ghost use Rattle.railnoise_requests_c.specs.Merged.{exported_merged, MergedCalled};
 ghost use Rattle.railnoise_requests_c.specs.Speed.{period_by, exported_speed, SpeedCalled};
-ghost use Rattle.railnoise_requests_c.specs.Private.{TextReports, change_of, by_day, by_night};
+ghost use Rattle.railnoise_requests_c.specs.Private.{given_source, TextGives, TextRefused, exported_told};
 
 use c_values::{RailnoisePeriod, level_value, line_value, period_value};
 use decibel::Level;
-use drawings::{MergedAnswer, merged_levels};
+use drawings::{MergedFault, merged_levels};
 use energy::Total;
-use entitlement::{
-    Change, Entitlement, Levels, PeriodEntitlement, entitlement_by, refused_entitlement,
-};
-use figures::{Check, Period, Refusal, check_number};
-use request::MOST_CELLS;
-use text::text_levels;
-use text_speeds::{TextSpeed, text_speed};
+use entitlement::{Change, Entitlement, Levels, PeriodEntitlement, entitlement_by};
+use figures::{Period, Periods, Refusal, check_number};
+use request::{MOST_CELLS, PeriodResult};
+use text::{Fault, text_levels};
+use text_speeds::text_speed;
 
-// `railnoise_combined`: the level in tenths, 0 when silent.
+// The structs of this file are C's, with flags and numbers. `railnoise_combined`: the level in tenths, 0 when silent.
 #[repr(C)]
 #[derive(Clone, Copy)]
 pub struct RailnoiseCombined {
@@ -73,20 +70,19 @@ pub struct RailnoiseSpeedAnswer {
     pub speed: u32,
 }
 
-// What a text gives: its refusal and line, or the level that its study reports in each period.
+// Why a text ends the request for entitlement: its place among the four, from 1, its refusal and the line at fault.
 #[derive(Clone, Copy)]
-struct TextReport {
-    check: Check,
+struct TextFault {
+    place: u32,
+    refusal: Refusal,
     line: usize,
-    day: Level,
-    night: Level,
 }
 
+#[tactic(auto, unfolding(c_values::specs::Values::level_value), using(decibel::proofs::Words::back))]
 fn combined_of(total: Total) -> RailnoiseCombined
     ensures { result ≡ exported_combined total }
 {
-    let level = total.level;
-    let value = level_value(level);
+    let value = level_value(total.level);
     RailnoiseCombined {
         silent: value.silent,
         level: value.tenths,
@@ -94,14 +90,13 @@ fn combined_of(total: Total) -> RailnoiseCombined
     }
 }
 
+#[tactic(auto, unfolding(crate::specs::Entitlement::exported_entitlement_period))]
 fn period_of(period: PeriodEntitlement) -> RailnoiseEntitlementPeriod
     ensures { result ≡ exported_entitlement_period period }
 {
-    let prevailing = period.prevailing;
-    let relevant = period.relevant;
     RailnoiseEntitlementPeriod {
-        prevailing: combined_of(prevailing),
-        relevant: combined_of(relevant),
+        prevailing: combined_of(period.prevailing),
+        relevant: combined_of(period.relevant),
         reaches: period.reaches,
         rises: period.rises,
         contributes: period.contributes,
@@ -109,103 +104,97 @@ fn period_of(period: PeriodEntitlement) -> RailnoiseEntitlementPeriod
     }
 }
 
-fn answer_of(answer: Entitlement, text: u32, line: usize) -> RailnoiseEntitlementAnswer
+// An answer with the text that was refused and its line, both 0 where none was.
+#[tactic(auto, unfolding(crate::specs::Entitlement::exported_entitlement, figures::specs::Refusal::check_of))]
+fn answer_of(
+    answer: Result<Entitlement, Refusal>,
+    text: u32,
+    line: usize,
+) -> RailnoiseEntitlementAnswer
     ensures { result ≡ exported_entitlement answer text line }
 {
-    let check = answer.check;
-    let refusal = check_number(check);
-    let at = line_value(line);
-    let day = answer.day;
-    let night = answer.night;
+    let refusal = check_number(answer.map(|_| ()));
+    let shown = answer.unwrap_or(Entitlement::silent());
     RailnoiseEntitlementAnswer {
-        refusal: refusal,
-        text: text,
-        line: at,
-        day: period_of(day),
-        night: period_of(night),
-        entitled: answer.entitled,
+        refusal,
+        text,
+        line: line_value(line),
+        day: period_of(shown.day),
+        night: period_of(shown.night),
+        entitled: shown.entitled,
     }
 }
 
-// The levels of a period.
-fn change_of(
-    altered_before: Level,
-    altered_after: Level,
-    other_before: Level,
-    other_after: Level,
-) -> Change
-    ensures { result ≡ change_of altered_before altered_after other_before other_after }
-{
-    Change {
-        before: Levels {
-            altered: altered_before,
-            other: other_before,
-        },
-        after: Levels {
-            altered: altered_after,
-            other: other_after,
-        },
-    }
+// A text as C hands it over, perhaps marked as empty.
+#[derive(Clone, Copy)]
+struct Given<'a> {
+    empty: bool,
+    text: &'a [u8],
 }
 
-// What a text reports; a text marked as empty is silent and is not looked at.
-fn report_of(empty: bool, text: &[u8]) -> TextReport
-    ensures { TextReports (record { empty = empty; text = text.now }) result }
+// The levels that a text's study reports; a text marked as empty is silent and is not looked at.
+fn report_of(place: u32, given: Given<'_>) -> Result<Periods<Level>, TextFault>
+    ensures { MatchResult result (λ r. TextGives (given_source given.entry) r) (λ f. TextRefused place (given_source given.entry) f) }
 {
-    if empty {
-        return TextReport {
-            check: Check::Accepted,
-            line: 0,
+    if given.empty {
+        return Ok(Periods {
             day: Level::Silent,
             night: Level::Silent,
-        };
+        });
     }
     let mut cells = [0i32; MOST_CELLS];
-    let answer = text_levels(text, &mut cells);
-    let check = answer.check;
-    let day = answer.day;
-    let night = answer.night;
-    let by_day = day.level;
-    let by_night = night.level;
-    TextReport {
-        check,
-        line: answer.line,
-        day: by_day,
-        night: by_night,
+    match text_levels(given.text, &mut cells) {
+        Ok(results) => Ok(Periods {
+            day: results.day.level,
+            night: results.night.level,
+        }),
+        Err(fault) => Err(TextFault {
+            place,
+            refusal: fault.refusal,
+            line: fault.line,
+        }),
     }
 }
 
-// A text that was refused, at its place.
-fn refused_text(refusal: Refusal, place: u32, line: usize) -> RailnoiseEntitlementAnswer
-    ensures { result ≡ exported_entitlement (refused_entitlement refusal) place line }
-{
-    answer_of(refused_entitlement(refusal), place, line)
-}
-
-// Whether the house is entitled, from what the texts of the altered lines before and after and of the other lines before and after report.
+// Whether the house is entitled, from the texts in the order of C's parameters; the first that is refused ends the request.
 fn entitled(
-    first: TextReport,
-    second: TextReport,
-    third: TextReport,
-    fourth: TextReport,
-) -> Entitlement
-    ensures { EntitlementAnsweredBy (by_day first second third fourth) (by_night first second third fourth) result }
+    altered_before: Given<'_>,
+    altered_after: Given<'_>,
+    other_before: Given<'_>,
+    other_after: Given<'_>,
+) -> Result<Entitlement, TextFault>
+    ensures { exported_told result ≡ entitlement_in (given_source altered_before.entry) (given_source altered_after.entry) (given_source other_before.entry) (given_source other_after.entry) }
 {
-    let day_first = first.day;
-    let day_second = second.day;
-    let day_third = third.day;
-    let day_fourth = fourth.day;
-    let day = change_of(day_first, day_second, day_third, day_fourth);
-    let night_first = first.night;
-    let night_second = second.night;
-    let night_third = third.night;
-    let night_fourth = fourth.night;
-    let night = change_of(night_first, night_second, night_third, night_fourth);
-    entitlement_by(day, night)
+    let first = report_of(1, altered_before)?;
+    let second = report_of(2, altered_after)?;
+    let third = report_of(3, other_before)?;
+    let fourth = report_of(4, other_after)?;
+    let day = Change {
+        before: Levels {
+            altered: first.day,
+            other: third.day,
+        },
+        after: Levels {
+            altered: second.day,
+            other: fourth.day,
+        },
+    };
+    let night = Change {
+        before: Levels {
+            altered: first.night,
+            other: third.night,
+        },
+        after: Levels {
+            altered: second.night,
+            other: fourth.night,
+        },
+    };
+    Ok(entitlement_by(day, night))
 }
 
 // Whether a house is entitled, from the texts of the altered lines before and after the works and of the other lines before and after.
 #[unsafe(no_mangle)]
+#[tactic(auto, unfolding(crate::specs::Private::exported_told), using(crate::proofs::Calls::called))]
 pub extern "C" fn railnoise_entitlement(
     altered_before: &[u8],
     altered_before_empty: bool,
@@ -218,41 +207,49 @@ pub extern "C" fn railnoise_entitlement(
 ) -> RailnoiseEntitlementAnswer
     ensures { EntitlementCalled (source altered_before_empty altered_before.now) (source altered_after_empty altered_after.now) (source other_before_empty other_before.now) (source other_after_empty other_after.now) result }
 {
-    let first = report_of(altered_before_empty, altered_before);
-    let checked_first = first.check;
-    if let Check::Refused(refusal) = checked_first {
-        return refused_text(refusal, 1, first.line);
+    let answer = entitled(
+        Given {
+            empty: altered_before_empty,
+            text: altered_before,
+        },
+        Given {
+            empty: altered_after_empty,
+            text: altered_after,
+        },
+        Given {
+            empty: other_before_empty,
+            text: other_before,
+        },
+        Given {
+            empty: other_after_empty,
+            text: other_after,
+        },
+    );
+    match answer {
+        Ok(entitlement) => answer_of(Ok(entitlement), 0, 0),
+        Err(fault) => answer_of(Err(fault.refusal), fault.place, fault.line),
     }
-    let second = report_of(altered_after_empty, altered_after);
-    let checked_second = second.check;
-    if let Check::Refused(refusal) = checked_second {
-        return refused_text(refusal, 2, second.line);
-    }
-    let third = report_of(other_before_empty, other_before);
-    let checked_third = third.check;
-    if let Check::Refused(refusal) = checked_third {
-        return refused_text(refusal, 3, third.line);
-    }
-    let fourth = report_of(other_after_empty, other_after);
-    let checked_fourth = fourth.check;
-    if let Check::Refused(refusal) = checked_fourth {
-        return refused_text(refusal, 4, fourth.line);
-    }
-    answer_of(entitled(first, second, third, fourth), 0, 0)
 }
 
-fn merged_answer_of(answer: MergedAnswer) -> RailnoiseMergedAnswer
+#[tactic(auto, unfolding(crate::specs::Merged::exported_merged))]
+fn merged_answer_of(answer: Result<Periods<PeriodResult>, MergedFault>) -> RailnoiseMergedAnswer
     ensures { result ≡ exported_merged answer }
 {
-    let check = answer.check;
-    let refusal = check_number(check);
-    let line = line_value(answer.line);
-    RailnoiseMergedAnswer {
-        refusal,
-        text: answer.text,
-        line,
-        day: period_value(answer.day),
-        night: period_value(answer.night),
+    match answer {
+        Ok(results) => RailnoiseMergedAnswer {
+            refusal: 0,
+            text: 0,
+            line: 0,
+            day: period_value(results.day),
+            night: period_value(results.night),
+        },
+        Err(fault) => RailnoiseMergedAnswer {
+            refusal: u32::from(fault.refusal),
+            line: line_value(fault.line),
+            text: fault.text,
+            day: RailnoisePeriod::silent(),
+            night: RailnoisePeriod::silent(),
+        },
     }
 }
 
@@ -269,22 +266,28 @@ pub extern "C" fn railnoise_merged_levels(
 }
 
 // The period that C asks for.
+#[tactic(auto, unfolding(crate::specs::Speed::period_by))]
 fn period_by(night: bool) -> Period
     ensures { result ≡ period_by night }
 {
     if night { Period::Night } else { Period::Day }
 }
 
-fn speed_answer_of(answer: TextSpeed) -> RailnoiseSpeedAnswer
+#[tactic(auto, unfolding(crate::specs::Speed::exported_speed))]
+fn speed_answer_of(answer: Result<u32, Fault>) -> RailnoiseSpeedAnswer
     ensures { result ≡ exported_speed answer }
 {
-    let check = answer.check;
-    let refusal = check_number(check);
-    let line = line_value(answer.line);
-    RailnoiseSpeedAnswer {
-        refusal,
-        line,
-        speed: answer.speed,
+    match answer {
+        Ok(speed) => RailnoiseSpeedAnswer {
+            refusal: 0,
+            line: 0,
+            speed,
+        },
+        Err(fault) => RailnoiseSpeedAnswer {
+            refusal: u32::from(fault.refusal),
+            line: line_value(fault.line),
+            speed: 0,
+        },
     }
 }
 

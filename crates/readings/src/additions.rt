@@ -1,15 +1,17 @@
 // What no text can show: refusals by the study's condition, 20 to 24, of additions and of the request for levels, and the speed that a study keeps.
-use figures::{Check, Segment, Train};
+use figures::{Refusal, Segment, Train};
+use request::MOST_CELLS;
 use std::io;
 use study::Study;
 
 // A segment that keeps its lines but perhaps for its distance. Its other figures are 0, as at a place that nothing was added to.
 pub(crate) fn plain_segment(distance: i32) -> Segment {
-    let mut segment = study::no_segment();
-    segment.distance = distance;
-    segment.view = 180;
-    segment.doubled = 180;
-    segment
+    Segment {
+        distance,
+        view: 180,
+        doubled: 180,
+        ..Segment::default()
+    }
 }
 
 // A train that keeps its lines but perhaps for its row.
@@ -24,28 +26,24 @@ fn plain_train(row: i32) -> Train {
 }
 
 pub(crate) fn with_segments(n: usize) -> Study {
-    let mut study = study::empty();
+    let mut study = Study::new();
     for _ in 0..n {
-        let added = study::add_segment(study, plain_segment(1000));
-        study = added.study;
+        let _ = study.add_segment(plain_segment(1000));
     }
     study
 }
 
-pub(crate) fn with_trains(start: Study, n: usize) -> Study {
-    let mut study = start;
+pub(crate) fn add_trains(study: &mut Study, n: usize) {
     for _ in 0..n {
-        let added = study::add_train(study, plain_train(1));
-        study = added.study;
+        let _ = study.add_train(plain_train(1));
     }
-    study
 }
 
 // Writes what was refused, or that it was accepted.
-pub(crate) fn show(rt: &impl Print, name: &str, check: Check) -> io::Result<()> {
-    match check {
-        Check::Accepted => println!(rt; "{name} accepted"),
-        Check::Refused(refusal) => println!(rt; "{name} refused {}", figures::number(refusal)),
+pub(crate) fn show<T>(rt: &impl Print, name: &str, answer: &Result<T, Refusal>) -> io::Result<()> {
+    match answer {
+        Ok(_) => println!(rt; "{name} accepted"),
+        Err(refusal) => println!(rt; "{name} refused {}", u32::from(*refusal)),
     }
 }
 
@@ -61,17 +59,13 @@ fn show_trial(
     cells: &mut [i32],
 ) -> io::Result<()> {
     println!(rt; "{title}")?;
-    let first = with_segments(segments);
-    let held = study::add_segment(first, plain_segment(distance));
-    let second = with_trains(held.study, trains);
-    let full = study::add_train(second, plain_train(row));
-    let answer = request::levels(full.study, cells);
-    let segment = held.check;
-    let train = full.check;
-    let asked = answer.check;
-    show(rt, "segment", segment)?;
-    show(rt, "train", train)?;
-    show(rt, "levels", asked)
+    let mut study = with_segments(segments);
+    let segment = study.add_segment(plain_segment(distance));
+    add_trains(&mut study, trains);
+    let train = study.add_train(plain_train(row));
+    show(rt, "segment", &segment)?;
+    show(rt, "train", &train)?;
+    show(rt, "levels", &request::levels(&study, cells))
 }
 
 // 21, and that it comes before a segment's own refusal.
@@ -144,26 +138,26 @@ fn show_requests(rt: &impl Print, cells: &mut [i32], few: &mut [i32]) -> io::Res
 }
 
 // Writes the speed that a study holds for its first entry.
-pub(crate) fn show_kept_speed(rt: &impl Print, study: Study) -> io::Result<()> {
-    let held = study::holdings_of(study);
-    let entries = held.entries;
-    let entry = entries[0];
-    let kept = entry.train;
-    println!(rt; "kept speed {}", figures::natural(kept.speed))
+pub(crate) fn show_kept_speed(rt: &impl Print, study: &Study) -> io::Result<()> {
+    match study.entries().first() {
+        Some(entry) => println!(rt; "kept speed {}", entry.train.speed),
+        None => Ok(()),
+    }
 }
 
 fn show_kept(rt: &impl Print) -> io::Result<()> {
     println!(rt; "# Additions: a train at 7 km/h")?;
-    let mut train = plain_train(1);
-    train.speed = 7;
-    let added = study::add_train(with_segments(1), train);
-    let check = added.check;
-    show(rt, "train", check)?;
-    show_kept_speed(rt, added.study)
+    let mut study = with_segments(1);
+    let added = study.add_train(Train {
+        speed: 7,
+        ..plain_train(1)
+    });
+    show(rt, "train", &added)?;
+    show_kept_speed(rt, &study)
 }
 
 pub(crate) fn show_each(rt: &impl Print) -> io::Result<()> {
-    let mut cells = [0i32; 192];
+    let mut cells = [0i32; MOST_CELLS];
     let mut few = [0i32; 3];
     show_segments(rt, &mut cells)?;
     show_entries(rt, &mut cells)?;

@@ -11,56 +11,37 @@ mod merges;
 
 ghost use Rattle.std.specs.Prelude.{◌≤◌, length, IfOk};
 
+use memchr::memchr;
+use std::fmt::Write as _;
 use std::io;
 use std::io::Read;
+use writing::Page;
 
-pub(crate) fn put(rt: &impl Print, bytes: &[u8]) -> io::Result<()> {
-    rt.write_all(bytes)
-}
-
-// The position of the first such byte from a position on, or the length where there is none.
-fn find(list: &[u8], start: usize, byte: u8) -> usize
-    requires { start ≤ length list.now }
-    ensures { (start ≤ result) × (result ≤ length list.now) }
-{
-    let mut at = start;
-    while at < list.len() {
-        if list[at] == byte {
-            return at;
-        }
-        at += 1;
-    }
-    at
-}
-
-// Writes the breakdown of a text.
+// Writes the breakdown of a text, which has room on the page, at once.
 fn show(rt: &impl Print, text: &[u8]) -> io::Result<()> {
-    let mut out = [0u8; 32768];
-    let count = breakdown::put_text(text, &mut out, 0);
-    if count <= out.len() {
-        put(rt, &out[..count])?;
+    let breakdown = breakdown::text_breakdown(text);
+    let mut page = Page::<32768>::new();
+    if write!(page, "{breakdown}").is_ok() {
+        rt.print(page.as_str())?;
     }
     Ok(())
 }
 
 // Writes each text of a list under its title.
 fn show_each(rt: &impl Print, list: &[u8]) -> io::Result<()> {
-    let mut at = 0;
-    while at < list.len() {
-        let end = find(list, at, b'\n');
-        if list.len() <= end {
-            return Ok(());
-        }
-        let start = end + 1;
-        let next = find(list, start, b'#');
-        put(rt, &list[at..start])?;
-        show(rt, &list[start..next])?;
-        at = next;
+    let mut rest = list;
+    while let Some(end) = memchr(b'\n', rest) {
+        let (title, after) = rest.split_at(end + 1);
+        let next = memchr(b'#', after).unwrap_or(after.len());
+        rt.write_all(title)?;
+        show(rt, &after[..next])?;
+        rest = &after[next..];
     }
     Ok(())
 }
 
 // Reads until the list is full or the input ends: where no room is left, a read takes nothing.
+// The loop counts by hand, into fixed memory: std's `read_to_end` allocates.
 fn read_list(input: &mut impl Read, list: &mut [u8]) -> io::Result<usize>
     ensures { IfOk result (λ n. n ≤ length list.new) }
 {

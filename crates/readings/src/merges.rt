@@ -1,57 +1,70 @@
 // Merges of studies that no two texts can show: studies without entries, the empty study, and what a refused merge gives back.
-use crate::additions::{plain_segment, show, with_segments, with_trains};
+use crate::additions::{add_trains, plain_segment, show, with_segments};
 use crate::entitlements::show_level;
+use decibel::Level;
+use request::MOST_CELLS;
 use std::io;
 use study::Study;
 
 // Segments at 10 m, and trains at the last of them.
-fn near(segments: usize, trains: usize) -> Study {
-    with_trains(with_segments(segments), trains)
+pub(crate) fn near(segments: usize, trains: usize) -> Study {
+    let mut study = with_segments(segments);
+    add_trains(&mut study, trains);
+    study
 }
 
 // A segment at 50 m, so that a train's level tells its segment.
 fn far(trains: usize) -> Study {
-    let added = study::add_segment(study::empty(), plain_segment(5000));
-    with_trains(added.study, trains)
+    let mut study = Study::new();
+    let _ = study.add_segment(plain_segment(5000));
+    add_trains(&mut study, trains);
+    study
 }
 
-// Writes whether two studies are merged, how many segments and entries the answer's study has, and its levels in tenths.
-fn show_trial(rt: &impl Print, title: &str, first: Study, second: Study) -> io::Result<()> {
+// Writes whether two studies are merged, how many segments and entries the first then has, and its levels in tenths.
+fn show_trial(rt: &impl Print, title: &str, mut first: Study, second: &Study) -> io::Result<()> {
     println!(rt; "{title}")?;
-    let merged = merging::merge(first, second);
-    let check = merged.check;
-    show(rt, "merge", check)?;
-    let held = study::holdings_of(merged.study);
-    println!(rt; "holds segments {} entries {}", held.count, held.total)?;
-    let mut cells = [0i32; 192];
-    let answer = request::levels(merged.study, &mut cells);
-    let asked = answer.check;
-    show(rt, "levels", asked)?;
-    let day = answer.day;
-    let night = answer.night;
-    let by_day = day.level;
-    let by_night = night.level;
-    show_level(rt, "heard day", by_day)?;
-    show_level(rt, " night", by_night)?;
+    let merged = merging::merge(&mut first, second);
+    show(rt, "merge", &merged)?;
+    let segments = first.segments().len();
+    let entries = first.entries().len();
+    println!(rt; "holds segments {segments} entries {entries}")?;
+    let mut cells = [0i32; MOST_CELLS];
+    let answer = request::levels(&first, &mut cells);
+    show(rt, "levels", &answer)?;
+    let (day, night) = answer.map_or((Level::Silent, Level::Silent), |heard| {
+        (heard.day.level, heard.night.level)
+    });
+    show_level(rt, "heard day", day)?;
+    show_level(rt, " night", night)?;
     println!(rt)
 }
 
 // 24 segments and 96 entries together, and one more of either or of both.
 fn show_limits(rt: &impl Print) -> io::Result<()> {
-    let first = near(12, 48);
     show_trial(
         rt,
         "# Merge: 24 segments and 96 entries together",
-        first,
         near(12, 48),
+        &near(12, 48),
     )?;
-    show_trial(rt, "# Merge: 25 segments together", first, near(13, 1))?;
-    show_trial(rt, "# Merge: 97 entries together", first, near(12, 49))?;
+    show_trial(
+        rt,
+        "# Merge: 25 segments together",
+        near(12, 48),
+        &near(13, 1),
+    )?;
+    show_trial(
+        rt,
+        "# Merge: 97 entries together",
+        near(12, 48),
+        &near(12, 49),
+    )?;
     show_trial(
         rt,
         "# Merge: 25 segments and 97 entries together",
-        first,
-        near(13, 49),
+        near(12, 48),
+        &near(13, 49),
     )
 }
 
@@ -61,27 +74,27 @@ fn show_unheard(rt: &impl Print) -> io::Result<()> {
         rt,
         "# Merge: a first study without an entry",
         near(1, 0),
-        far(1),
+        &far(1),
     )?;
     show_trial(
         rt,
         "# Merge: a second study without an entry",
         far(1),
-        near(1, 0),
+        &near(1, 0),
     )?;
     show_trial(
         rt,
         "# Merge: two studies without an entry",
         near(1, 0),
-        far(0),
+        &far(0),
     )?;
-    show_trial(rt, "# Merge: with the empty study", far(1), study::empty())?;
-    show_trial(rt, "# Merge: to the empty study", study::empty(), far(1))?;
+    show_trial(rt, "# Merge: with the empty study", far(1), &Study::new())?;
+    show_trial(rt, "# Merge: to the empty study", Study::new(), &far(1))?;
     show_trial(
         rt,
         "# Merge: the empty study twice",
-        study::empty(),
-        study::empty(),
+        Study::new(),
+        &Study::new(),
     )
 }
 

@@ -1,106 +1,107 @@
--- Laws of the lines: what they are put together from, how long they are at most, and that they stand whole in an array with room for them.
+-- Laws of the lines: what they are put together from, and how long they are at most.
 -- Assumes nothing.
-use mathlib.Core.Path.{◌≡◌, refl}
+use mathlib.Core.Path.{◌≡◌, refl, sym}
 use mathlib.Core.Bool.{Bool, true, false}
-use mathlib.Core.List.{List, [], ◌∷◌, ◌++◌, append-nil, flatten}
-use Prim.Native.Nat.{ℕ, ◌+◌, ◌<◌, ◌≤◌, ◌^◌}
+use mathlib.Core.List.{List, [], ◌∷◌, ◌++◌, append_assoc, append-nil, flatten}
+use Prim.Native.Nat.{ℕ, ◌<◌, ◌≤◌, ◌^◌}
 use native.Mathlib.Omega.{arith}
 use lib.IntN.{ℤ}
 use lib.ListN.{length, length-append}
 use mir.Syntax.{w32}
-use mir.Val.{SFits}
+use mir.Val.{SFits, to_z, of_z}
+use mir.Facts.{to_z-of_z}
+use Rattle.std.specs.Fmt.{decimal}
+use Rattle.std.specs.Prelude.{Ok, Err}
 use Rattle.decibel.specs.declared.Level.{Level}
 use Rattle.decibel.specs.declared.Level.TheVariants.{Silent, Figure}
 use Rattle.figures.specs.declared.Refusal.{Refusal}
 use Rattle.request.specs.declared.PeriodResult.{PeriodResult}
-use Rattle.writing.specs.Bytes.{ascii, digits_of, figure_of}
-use Rattle.writing.specs.Pages.{Put}
-use Rattle.writing.proofs.Digits.{digits_length}
+use Rattle.writing.specs.Bytes.{ascii, figure_of}
+use Rattle.writing.proofs.Digits.{digits_length, decimal_is}
 use Rattle.writing.proofs.Lengths.{figure_length}
-use Rattle.writing.proofs.Pages.{AtFront, alone, also, also_each, at_front}
+use Rattle.text.specs.declared.Fault.{Fault}
 use Rattle.words.specs.Words.{refused_of}
 use Rattle.words.proofs.Notices.{refused_length}
+use Rattle.report.specs.declared.Outcome.{Outcome}
+use Rattle.figures.specs.declared.Periods.{Periods}
 use Rattle.report.specs.Bytes.{level, verdict}
-use Rattle.report.specs.Report.{result_parts, period_parts, answer_lines, refusal_line}
-use Rattle.report.specs.Private.{PutWithin}
+use Rattle.report.specs.Report.{result_parts, result_line, period_parts, answer_lines, refusal_line, written}
 
-flatten_length : (ps qs : List (List ℕ)) → length (flatten (ps ++ qs)) ≡ length (flatten ps) + length (flatten qs)
+pub flatten_append : (ps qs : List (List ℕ)) → flatten (ps ++ qs) ≡ flatten ps ++ flatten qs
 unfolding flatten
-flatten_length [] qs = omega arith
-flatten_length (p ∷ ps) qs = simp length-append (omega (arith, flatten_length ps qs))
+flatten_append [] qs = refl
+flatten_append (p ∷ ps) qs = rw (flatten_append ps qs) (sym (append_assoc p (flatten ps) (flatten qs)))
 
--- ---- a level and a verdict
+-- ---- a level and a period's result
 
-pub silent_put : {before after : List ℕ} {at next : ℕ} {l : Level}
-    → l ≡ Silent
-    → Put before at (ascii "silent") after next
-    → PutWithin 12 before at (level l ∷ []) after next
-unfolding level flatten
-silent_put e p = rw e (record { put = alone p; few = omega arith })
+pub silent_is : {l : Level} → l ≡ Silent → ascii "silent" ≡ level l
+unfolding level
+silent_is e = rw e refl
 
-pub figure_put : {before after : List ℕ} {at next : ℕ} {l : Level} {z : ℤ}
-    → l ≡ Figure z
-    → SFits w32 z
-    → Put before at (figure_of z) after next
-    → PutWithin 12 before at (level l ∷ []) after next
-unfolding level flatten
-figure_put {z = z} e f p = rw e (record { put = alone p; few = simp append-nil (figure_length z f) })
+pub figure_is : {l : Level} {z : ℤ} → SFits w32 z → l ≡ Figure z → figure_of (to_z w32 (of_z w32 z)) ≡ level l
+unfolding level
+figure_is f e = rw (e, to_z-of_z f) refl
+
+pub result_is : (r : PeriodResult) {word : List ℕ}
+    → r.close < 2 ^ 32
+    → word ≡ verdict r.met
+    → level r.level ++ (ascii " " ++ (decimal r.close ++ (ascii " " ++ word))) ≡ result_line r
+unfolding result_line result_parts flatten
+result_is r h e = rw (e, decimal_is r.close (omega arith), append-nil (verdict r.met)) refl
+
+-- ---- the lines of an answer and of a refusal
+
+period_is : (name : List ℕ) (r : PeriodResult) → flatten (period_parts name r) ≡ name ++ (result_line r ++ ascii "\n")
+unfolding period_parts result_line flatten
+period_is name r = rw (flatten_append (result_parts r) (ascii "\n" ∷ [])) refl
+
+lines_are : (day night : PeriodResult)
+    → ascii "period level close met\nday " ++ (result_line day ++ (ascii "\nnight " ++ (result_line night ++ ascii "\n"))) ≡ answer_lines day night
+unfolding answer_lines flatten
+lines_are day night =
+    let last : List ℕ = ascii "night " ++ (result_line night ++ ascii "\n") in
+    rw (flatten_append (period_parts (ascii "day ") day) (period_parts (ascii "night ") night), period_is (ascii "day ") day, period_is (ascii "night ") night, append_assoc (result_line day) (ascii "\n") last) refl
+
+pub answer_is : (o : Outcome) (r : Periods PeriodResult)
+    → o.0 ≡ Ok r
+    → ascii "period level close met\nday " ++ (result_line r.day ++ (ascii "\nnight " ++ (result_line r.night ++ ascii "\n"))) ≡ written o
+unfolding written
+answer_is o r e = rw e (lines_are r.day r.night)
+
+pub refusal_is : (o : Outcome) (r : Fault) → o.0 ≡ Err r → refused_of r.refusal r.line ++ ascii "\n" ≡ written o
+unfolding written refusal_line flatten
+refusal_is o r e = rw e refl
+
+-- ---- how long they are
+
+-- a figure that its type holds
+abbrev pub Held : Level → Type 0
+Held l = (z : ℤ) → l ≡ Figure z → SFits w32 z
+
+level_length : (l : Level) → Held l → length (level l) ≤ 12
+unfolding level
+level_length Silent f = omega arith
+level_length (Figure z) f = figure_length z (f z refl)
 
 verdict-length : (met : Bool) → length (verdict met) ≤ 3
 unfolding verdict
 verdict-length true = omega arith
 verdict-length false = omega arith
 
--- ---- a period
+result_length : (r : PeriodResult) → Held r.level → r.close < 2 ^ 32 → length (result_line r) ≤ 27
+unfolding result_line result_parts flatten
+result_length r f h =
+    simp (length-append, append-nil) (omega (arith, level_length r.level f, digits_length 9 r.close (omega arith), verdict-length r.met))
 
-pub result_put : (r : PeriodResult) {before first second third fourth after : List ℕ} {at i j k m end : ℕ}
-    → r.close < 2 ^ 32
-    → PutWithin 12 before at (level r.level ∷ []) first i
-    → Put first i (ascii " ") second j
-    → Put second j (digits_of r.close) third k
-    → Put third k (ascii " ") fourth m
-    → Put fourth m (verdict r.met) after end
-    → PutWithin 27 before at (result_parts r) after end
-unfolding result_parts flatten
-result_put r h l s c t v =
-    record {
-      put = also_each l.put (also s (also c (also t (alone v))));
-      few = simp (length-append, append-nil) (omega (arith, simp append-nil at l.few, digits_length 9 r.close (omega arith), verdict-length r.met));
-    }
-
-pub period_put : (name : List ℕ) (r : PeriodResult) {before first second after : List ℕ} {at i j end : ℕ}
-    → Put before at name first i
-    → PutWithin 27 first i (result_parts r) second j
-    → Put second j (ascii "\n") after end
-    → PutWithin (length name + 28) before at (period_parts name r) after end
-unfolding period_parts flatten
-period_put name r n p f =
-    record {
-      put = also n (also_each p.put (alone f));
-      few = simp (length-append, flatten_length) (omega (arith, p.few));
-    }
-
--- ---- the report of an answer and of a refusal
-
-pub answer-front : (day night : PeriodResult) {before first second after : List ℕ} {i j count : ℕ}
-    → length before ≡ 96
-    → Put before 0 (ascii "period level close met\n") first i
-    → PutWithin 32 first i (period_parts (ascii "day ") day) second j
-    → PutWithin 34 second j (period_parts (ascii "night ") night) after count
-    → AtFront (answer_lines day night) after count
-unfolding answer_lines flatten
-answer-front day night l h d n =
-    at_front (also h (also_each d.put n.put)) refl (simp flatten_length (omega (arith, d.few, n.few)))
+pub answer_length : (day night : PeriodResult)
+    → Held day.level
+    → day.close < 2 ^ 32
+    → Held night.level
+    → night.close < 2 ^ 32
+    → length (answer_lines day night) ≤ 96
+answer_length day night f h g k =
+    rw (← lines_are day night) (simp length-append (omega (arith, result_length day f h, result_length night g k)))
 
 pub refusal_length : (r : Refusal) (line : ℕ) → line < 2 ^ 64 → length (refusal_line r line) ≤ 37
 unfolding refusal_line flatten
 refusal_length r line h = simp length-append (omega (arith, refused_length r line h))
-
-pub refusal_front : (r : Refusal) (line : ℕ) {before first after : List ℕ} {i count : ℕ}
-    → line < 2 ^ 64
-    → length before ≡ 37
-    → Put before 0 (refused_of r line) first i
-    → Put first i (ascii "\n") after count
-    → AtFront (refusal_line r line) after count
-unfolding refusal_line
-refusal_front r line h l p f = at_front (also p (alone f)) refl (omega (arith, refusal_length r line h))

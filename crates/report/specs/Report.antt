@@ -1,18 +1,14 @@
 -- The report of a study text (01, "The text"): the bytes that the program writes, and the whole way from the text to them.
 -- Assumes nothing.
 use mathlib.Core.List.{List, [], ◌∷◌, ◌++◌, flatten}
-use Rattle.std.specs.Prelude.{ℕ, ◌≤◌, length}
+use Rattle.std.specs.Prelude.{◌≡◌, ℕ, ◌≤◌, length, Ok, Err}
 use Rattle.figures.specs.declared.Refusal.{Refusal}
-use Rattle.figures.specs.declared.Check.{Check}
-use Rattle.figures.specs.declared.Check.TheVariants.{Accepted, Refused}
 use Rattle.request.specs.declared.PeriodResult.{PeriodResult}
 use Rattle.request.specs.Levels.{MarksAllowed, own_marks}
-use Rattle.text.specs.declared.TextAnswer.{TextAnswer}
-use Rattle.text.specs.Answer.{plan_in, text_answer}
+use Rattle.text.specs.Answer.{TextAnswer, plan_in, text_answer}
 use Rattle.writing.specs.Bytes.{ascii, digits_of}
-use Rattle.writing.specs.Pages.{Put}
 use Rattle.words.specs.Words.{refused_of, notice_of}
-use Rattle.report.specs.declared.Written.{Written}
+use Rattle.report.specs.declared.Outcome.{Outcome}
 use Rattle.report.specs.Bytes.{level, verdict}
 
 -- ---- the lines, part by part
@@ -20,6 +16,10 @@ use Rattle.report.specs.Bytes.{level, verdict}
 -- a period's level, close count and verdict, one space from each other
 unfoldable pub result_parts : PeriodResult → List (List ℕ)
 result_parts r = level r.level ∷ ascii " " ∷ digits_of r.close ∷ ascii " " ∷ verdict r.met ∷ []
+
+-- and these as one
+unfoldable pub result_line : PeriodResult → List ℕ
+result_line r = flatten (result_parts r)
 
 -- a period's line: its name with a space, and these
 unfoldable pub period_parts : List ℕ → PeriodResult → List (List ℕ)
@@ -44,20 +44,20 @@ outcome_of text = text_answer text cells_lent
 
 -- ---- the report and the notice
 
-unfoldable pub report_by : Check → ℕ → PeriodResult → PeriodResult → List ℕ
-report_by Accepted line day night = answer_lines day night
-report_by (Refused r) line day night = refusal_line r line
+abbrev pub report_by : TextAnswer → List ℕ
+report_by (Ok results) = answer_lines results.day results.night
+report_by (Err fault) = refusal_line fault.refusal fault.line
 
 -- a text that is answered has none
-unfoldable pub notice_by : Check → ℕ → List ℕ
-notice_by Accepted line = []
-notice_by (Refused r) line = notice_of r line
+abbrev pub notice_by : TextAnswer → List ℕ
+notice_by (Ok results) = []
+notice_by (Err fault) = notice_of fault.refusal fault.line
 
 unfoldable pub report_of : List ℕ → List ℕ
-report_of text = report_by (outcome_of text).check (outcome_of text).line (outcome_of text).day (outcome_of text).night
+report_of text = report_by (outcome_of text)
 
 unfoldable pub notice_for : List ℕ → List ℕ
-notice_for text = notice_by (outcome_of text).check (outcome_of text).line
+notice_for text = notice_by (outcome_of text)
 
 -- every report and every notice has room in so many bytes
 abbrev pub report_room : ℕ
@@ -66,10 +66,19 @@ report_room = 96
 abbrev pub notice_room : ℕ
 notice_room = 450
 
--- what the report of a text ensures: it and the notice stand at the front of what is lent for them, and 01 allows the marks
-pub record Reported (text out notice out_after notice_after : List ℕ) (r : Written) : Type 0 where
-  pub output : Put out 0 (report_of text) out_after r.output
+-- ---- a report, as it is written
+
+unfoldable pub written : Outcome → List ℕ
+written r = report_by r.0
+
+-- and the notice beside it: none of an answer
+unfoldable pub noticed : Outcome → List ℕ
+noticed r = notice_by r.0
+
+-- what the report of a text ensures: it is written as the text's, what it refuses is noticed as the text's, and 01 allows the marks
+pub record Reported (text : List ℕ) (r : Outcome) : Type 0 where
+  pub output : written r ≡ report_of text
   pub output_room : length (report_of text) ≤ report_room
-  pub told : Put notice 0 (notice_for text) notice_after r.notice
+  pub told : noticed r ≡ notice_for text
   pub told_room : length (notice_for text) ≤ notice_room
   pub allowed : MarksAllowed (plan_in text) (own_marks (plan_in text))

@@ -10,9 +10,7 @@ use lib.Signed.{mag}
 use mir.Syntax.{w16}
 use mir.Val.{to_z, of_z}
 use mir.Facts.{to_z-of_z}
-use native.Mathlib.Numerals.{add-one}
-use lib.Seq.{paste, paste-suc, take_at, take_all, length-take-le}
-use lib.ListN.{length, get_or, set, take, drop, length-map, get_or-map}
+use lib.ListN.{length, get_or, length-map}
 use Rattle.decibel.proofs.Ints.{add_most, mag_most, most_mag}
 use Rattle.decibel.specs.declared.Level.{Level}
 use Rattle.decibel.specs.declared.Level.TheVariants.{Silent, Figure}
@@ -24,9 +22,9 @@ use Rattle.request.specs.Entry.{level_by}
 use Rattle.figures.specs.Bounds.{Below}
 use Rattle.emission.specs.Results.{SmallLevel}
 use Rattle.study.specs.declared.Entry.{Entry}
-use Rattle.study.specs.Plan.{Plan, segment_at, no_entry}
+use Rattle.study.specs.Plan.{Plan, segment_at}
 use Rattle.request.specs.Levels.{level_at, levels_of, ground_marks, cell_of}
-use Rattle.request.specs.Private.{cell_from}
+use Rattle.request.specs.Request.{cell_from}
 use Rattle.request.proofs.Found.{own_mark, own_tenths}
 
 -- ---- one cell
@@ -82,16 +80,3 @@ module _ (p : Period) (plan : Plan) where
       go : (es : List Entry) → map (cell_from p tenths) es ≡ map cell_of (map (level_at p plan (ground_marks plan)) es)
       go [] = refl
       go (e ∷ es) = ap₂ ◌∷◌ (ap cell_of (sym (found_level tenths all e))) (go es)
-
--- one more of a list of what entries have
-pub entry_written : {A : Type 0} (of : Entry → A) (es : List Entry) (before : List A) (i : ℕ) {xs : List A} {e : Entry} {v : A} → e ≡ get_or es i no_entry → v ≡ of e → i < length before → i < length es
-    → xs ≡ paste before 0 (map of es) i → set xs i v ≡ paste before 0 (map of es) (i + 1)
-entry_written of es before i {xs} {e} {v} h f room l done =
-    let same : v ≡ get_or (map of es) i (of no_entry) = f ∙ ap of h ∙ sym (get_or-map of es i no_entry) in
-    let here : i ≡ 0 + i = omega arith in
-    rw (add-one, done, same)
-    (ap (λ (k : ℕ). set (paste before 0 (map of es) i) k (get_or (map of es) i (of no_entry))) here ∙ paste-suc before 0 (map of es) i (of no_entry) (omega arith) (omega (arith, length-map es of)))
-
--- what was pasted at the front
-pub front_is : {A : Type 0} (before s : List A) (n : ℕ) {after : List A} → n ≡ length s → after ≡ paste before 0 s n → take n after ≡ s
-front_is before s n e f = ap (take n) f ∙ take_at (take n s) (drop (0 + n) before) n (length-take-le n s (omega arith)) ∙ take_all n s (omega arith)

@@ -4,9 +4,7 @@ use mathlib.Core.Path.{◌≡◌, refl, sym, ap, ◌∙◌}
 use mathlib.Core.Bool.{Bool, true, false, cond, ◌&&◌}
 use mathlib.Core.List.{List, [], ◌∷◌}
 use Prim.Native.Nat.{ℕ, zero, suc, ◌+◌, ◌-◌, ◌<◌, ◌≤◌}
-use native.Mathlib.Nat.{add-zero, add-suc, not-suc-le-zero}
-use native.Mathlib.Decide.{dec_lt}
-use borrow.Author.Count.{below_more}
+use native.Mathlib.Nat.{add-zero, add-suc}
 use native.Mathlib.Omega.{arith}
 use lib.ListN.{length, get_or, get_or-eq_default}
 use Rattle.figures.specs.declared.Segment.{Segment}
@@ -17,23 +15,6 @@ use Rattle.study.specs.Add.{ours}
 use Rattle.request.specs.Levels.{Marks, mark_at, own_marks, heard_at, close_from, close_segments}
 use Rattle.request.specs.Request.{count_to}
 use Rattle.request.proofs.Found.{own_mark, none_adds}
-
--- no place below k is close
-pub record NoneTo (close : List Bool) (k : ℕ) : Type 0 where
-  pub each : (j : ℕ) → j < k → get_or close j false ≡ false
-
-pub none_yet : (close : List Bool) → NoneTo close 0
-none_yet close = record { each = λ j h. absurd (not-suc-le-zero h) }
-
-pub none_more : (close : List Bool) (k : ℕ) → NoneTo close k → get_or close k false ≡ false → NoneTo close (k + 1)
-none_more close k old e = record { each = below_more (λ (j : ℕ). get_or close j false ≡ false) k old.each e }
-
-pub none_all : (close : List Bool) (k : ℕ) → length close ≤ k → NoneTo close k → (j : ℕ) → get_or close j false ≡ false
-none_all close k h all j = go (dec_lt j k)
-  where
-    go : Dec (j < k) → get_or close j false ≡ false
-    go (yes l) = all.each j l
-    go (no f) = get_or-eq_default close false (omega arith)
 
 pub count_same : (f g : ℕ → Bool) (n : ℕ) → ((k : ℕ) → k < n → f k ≡ g k) → count_to f n ≡ count_to g n
 unfolding count_to
@@ -63,7 +44,7 @@ count_append f n zero = rw (add-zero n) (omega arith)
 count_append f n (suc d) = rw (add-suc n d, count_append f n d) (omega arith)
 
 -- no number from n on passes
-count_past : (f : ℕ → Bool) (n d : ℕ) → ((k : ℕ) → n ≤ k → f k ≡ false) → count_to f (n + d) ≡ count_to f n
+pub count_past : (f : ℕ → Bool) (n d : ℕ) → ((k : ℕ) → n ≤ k → f k ≡ false) → count_to f (n + d) ≡ count_to f n
 count_past f n d h = count_append f n d ∙ rw (count_none (λ k. f (n + k)) d (λ k. h (n + k) (omega arith))) (omega arith)
 
 module _ (p : Period) (plan : Plan) (m : Marks) where

@@ -17,7 +17,6 @@ use Rattle.energy.proofs.Bare.{bare_same}
 use Rattle.figures.specs.declared.Segment.{Segment}
 use Rattle.figures.specs.declared.Period.{Period}
 use Rattle.figures.specs.declared.Period.TheVariants.{Day, Night}
-use Rattle.figures.specs.declared.Check.TheVariants.{Accepted}
 use Rattle.propagation.specs.Check.{segment_check}
 use Rattle.emission.specs.Trains.{sounds}
 use Rattle.request.specs.Entry.{entry_fence}
@@ -29,6 +28,7 @@ use Rattle.study.proofs.Plans as Plans
 use Rattle.request.specs.Levels.{Marks, mark_at, total_mark_in, level_at, levels_of, figures, limit_of, met_by, result_from, result_by}
 use Rattle.study.proofs.Plans.{Each, EntryHeld, PlanHeld, segment_kept}
 use Rattle.request.specs.Accuracy.{fences_of, Bare, has_trains, Band, AccurateToBare}
+use Rattle.std.specs.Prelude.{Ok}
 
 -- the fences and the figures of the entries that have trains in a period
 pub entries_near : (p : Period) {l : Limits} (plan : Plan) (m : Marks) → PlanHeld l plan → {es : List Entry} → Each (EntryHeld plan.segments) es → Entries (fences_of p plan es) (figures (map (level_at p plan m) es))
@@ -42,7 +42,7 @@ entries_near p plan m held (Plans.Each.next {x = e} {xs = es} at rest) = go (sou
     mark : Bool
     mark = mark_at m e.segment
 
-    kept : segment_check s ≡ Accepted
+    kept : segment_check s ≡ Ok tt
     kept = segment_kept plan held e.segment at.segment
 
     go : (b : Bool) → sounds p e.train ≡ b → Entries (fences_of p plan es) (figures (map (level_at p plan m) es)) → Entries (fences_of p plan (e ∷ es)) (figures (map (level_at p plan m) (e ∷ es)))

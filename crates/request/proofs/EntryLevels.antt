@@ -14,10 +14,8 @@ use Rattle.energy.proofs.Alone.{no_figure}
 use Rattle.figures.specs.declared.Segment.{Segment}
 use Rattle.figures.specs.declared.Train.{Train}
 use Rattle.figures.specs.declared.Period.{Period}
-use Rattle.figures.specs.declared.Check.{Check}
-use Rattle.figures.specs.declared.Check.TheVariants.{Accepted, Refused}
 use Rattle.figures.specs.Rules.{train_check}
-use Rattle.figures.specs.Private.{Signed}
+use Rattle.figures.proofs.Ranged.{Signed}
 use Rattle.figures.proofs.Kept.{train_ranged}
 use Rattle.figures.proofs.Lies.{lies_add, near_lies}
 use Rattle.propagation.specs.Check.{segment_check}
@@ -29,6 +27,8 @@ use Rattle.emission.specs.Emission.{raised, emission_of}
 use Rattle.emission.proofs.TrainsStep.{runs}
 use Rattle.emission.proofs.Emission.{train_tenths, near_train, train_lies, emits_figure, emits_none, refused_silent}
 use Rattle.request.specs.Entry.{level_by, entry_fence}
+use Rattle.figures.specs.Refusal.{Check}
+use Rattle.std.specs.Prelude.{Ok, Err}
 
 -- the sum of an accepted entry that has trains
 pub entry_tenths : Period → Segment → Bool → Train → ℤ
@@ -39,7 +39,7 @@ pub near_entry : (p : Period) (s : Segment) (mark : Bool) (t : Train) → Near 3
 unfolding entry_tenths entry_fence
 near_entry p s mark t = near_add (near_segment s mark) (near_train p t)
 
-module _ (p : Period) (s : Segment) (t : Train) (es : segment_check s ≡ Accepted) (et : train_check t ≡ Accepted) where
+module _ (p : Period) (s : Segment) (t : Train) (es : segment_check s ≡ Ok tt) (et : train_check t ≡ Ok tt) where
   pub level_figure : (mark : Bool) → sounds p t ≡ true → level_by p s mark t ≡ Figure (entry_tenths p s mark t)
   unfolding level_by entry_tenths raised
   level_figure mark e = ap₂ raised (accepted_tenths s mark es) (emits_figure p t et e)
@@ -66,11 +66,11 @@ module _ (p : Period) (s : Segment) (t : Train) (es : segment_check s ≡ Accept
 
 -- ---- for every figure
 
-train_tenths_lie : (p : Period) (t : Train) → train_check t ≡ Accepted → sounds p t ≡ true → Signed 2000 1800 (train_tenths p t)
+train_tenths_lie : (p : Period) (t : Train) → train_check t ≡ Ok tt → sounds p t ≡ true → Signed 2000 1800 (train_tenths p t)
 train_tenths_lie p t et trains = near_lies 2000 1800 (train_tenths p t) _ (lit≤ tt) (lit≤ tt) (near_train p t) (train_lies p t (train_ranged t et) (runs p t trains))
 
 -- and so where its segment is refused and adds nothing
-alone_lies : (p : Period) (t : Train) → train_check t ≡ Accepted → sounds p t ≡ true → Signed 2000 1800 (pos 0 +ℤ train_tenths p t)
+alone_lies : (p : Period) (t : Train) → train_check t ≡ Ok tt → sounds p t ≡ true → Signed 2000 1800 (pos 0 +ℤ train_tenths p t)
 alone_lies p t et trains = let zero : Signed 0 0 (pos 0) = record { most = lit≤ tt; least = lit≤ tt } in lies_add zero (train_tenths_lie p t et trains)
 
 same-figure : (P : ℤ → Type 0) (a r : ℤ) → ◌≡◌ {A = Level} (Figure a) (Figure r) → P a → P r
@@ -84,8 +84,8 @@ levels_lie p s mark t r = cases (train_check t) refl (sounds p t) refl (segment_
     d = added_up (segment_breakdown_by s mark)
 
     cases : (x : Check) → train_check t ≡ x → (b : Bool) → sounds p t ≡ b → (y : Check) → segment_check s ≡ y → raised d (emission_of p t) ≡ Figure r → Signed 2000 1800 r
-    cases Accepted et true eb Accepted es e = same-figure (Signed 2000 1800) _ r (sym (level_figure p s t es et mark eb) ∙ e) (level_lies p s t es et eb mark)
-    cases Accepted et true eb (Refused k) es e =
+    cases (Ok _) et true eb (Ok _) es e = same-figure (Signed 2000 1800) _ r (sym (level_figure p s t es et mark eb) ∙ e) (level_lies p s t es et eb mark)
+    cases (Ok _) et true eb (Err k) es e =
         same-figure (Signed 2000 1800) _ r (sym (ap₂ raised (refused_tenths s mark es) (emits_figure p t et eb)) ∙ e) (alone_lies p t et eb)
-    cases Accepted et false eb y es e = no_figure r (sym (ap (raised d) (emits_none p t et eb)) ∙ e)
-    cases (Refused k) et b eb y es e = no_figure r (sym (ap (raised d) (refused_silent p t et)) ∙ e)
+    cases (Ok _) et false eb y es e = no_figure r (sym (ap (raised d) (emits_none p t et eb)) ∙ e)
+    cases (Err k) et b eb y es e = no_figure r (sym (ap (raised d) (refused_silent p t et)) ∙ e)

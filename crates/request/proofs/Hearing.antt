@@ -1,76 +1,87 @@
--- Which segments are heard by the cells of their entries, and how many of those are marked.
+-- A segment that is heard by the cells of its entries, as a search through them finds it, and how many of those are marked as close.
 -- Assumes nothing.
-use mathlib.Core.Path.{◌≡◌, refl, sym, ap, ◌∙◌}
-use mathlib.Core.Bool.{Bool, true, false, ◌&&◌, ◌||◌, or-false}
+use mathlib.Core.Path.{◌≡◌, refl, ap}
+use mathlib.Core.Bool.{Bool, ◌&&◌, ◌||◌}
 use mathlib.Core.List.{List, [], ◌∷◌}
-use Prim.Native.Nat.{ℕ, zero, suc, ◌+◌, ◌<◌, min}
-use native.Mathlib.Nat.{not-suc-le-zero, le_of_suc-le-suc, suc-min-suc, zero-min, min-zero}
-use native.Mathlib.Numerals.{add-one}
-use native.Mathlib.Omega.{arith}
-use borrow.Author.Tests.{eqb-true, eqb-false}
+use Prim.Native.Nat.{ℕ}
 use lib.Dec.{eqb}
-use lib.IntN.{ℤ, pos, negsuc}
+use lib.IntN.{ℤ, negsuc}
 use lib.Signed.{le_z}
-use lib.ListN.{length, get_or, set, take, replicate, length-set, get_or-replicate}
-use lib.Seq.{get_or-set_same, get_or-set_other}
+use Rattle.std.proofs.Common.{sym, ◌∙◌, arith, min, true, false, cond, ◌+◌, ◌-◌, ◌<◌, ◌≤◌, length, take, get_or, get_or-take}
+use Rattle.std.proofs.lemmas.List.{get_or_default, get_or_past}
+use native.Mathlib.Numerals.{add-one}
+use native.Mathlib.Nat.{lt_of_not-le}
+use native.Mathlib.Decide.{dec_le}
+use lib.ListN.{length-map, length-take, get_or-map}
+use Rattle.propagation.specs.declared.Propagation.{Propagation}
+use Rattle.study.specs.declared.Entry.{Entry}
 use Rattle.study.specs.Add.{ours}
-use Rattle.request.specs.Request.{sounds_at}
-use Rattle.request.specs.Private.{marked_by, SegmentsHeard}
+use Rattle.request.specs.Request.{sounds_at, places_of, marks_of, count_to}
+use Rattle.request.specs.Private.{CloseSegments, hears}
+use Rattle.request.proofs.Counts.{count_past}
 
-or_assoc : (a b c : Bool) → (a || (b || c)) ≡ ((a || b) || c)
-or_assoc true b c = refl
-or_assoc false b c = refl
-
--- one more entry
-sounds_more : (k : ℕ) (es : List ℕ) (cs : List ℤ) (i : ℕ) → i < length es → i < length cs
-    → sounds_at k (take (suc i) es) (take (suc i) cs) ≡ (sounds_at k (take i es) (take i cs) || (eqb (get_or es i 0) k && le_z (negsuc 1999) (get_or cs i (pos 0))))
+pub hears_is : (k : ℕ) (es : List Entry) (cells : List ℤ) → hears k es cells ≡ sounds_at k (places_of es) cells
 unfolding sounds_at
-sounds_more k [] cs i h l = absurd (not-suc-le-zero h)
-sounds_more k (e ∷ es) [] i h l = absurd (not-suc-le-zero l)
-sounds_more k (e ∷ es) (c ∷ cs) zero h l = or-false _
-sounds_more k (e ∷ es) (c ∷ cs) (suc i) h l =
-    ap (λ (b : Bool). (eqb e k && le_z (negsuc 1999) c) || b) (sounds_more k es cs i (le_of_suc-le-suc h) (le_of_suc-le-suc l))
-    ∙ or_assoc (eqb e k && le_z (negsuc 1999) c) (sounds_at k (take i es) (take i cs)) _
+hears_is k [] cells = refl
+hears_is k (e ∷ es) [] = refl
+hears_is k (e ∷ es) (c ∷ cs) = ap (λ (b : Bool). (eqb e.segment k && le_z (negsuc 1999) c) || b) (hears_is k es cs)
 
-pub marked_length : (heard : List Bool) (j : ℕ) (b : Bool) → length (marked_by heard j b) ≡ length heard
-unfolding marked_by
-marked_length heard j b = length-set heard j _
+-- ---- counted, segment by segment
 
-marked_at : (heard : List Bool) (j k : ℕ) (b : Bool) → k < length heard → get_or (marked_by heard j b) k false ≡ (get_or heard k false || (eqb j k && b))
-unfolding marked_by
-marked_at heard j k b h = go (eqb j k) refl
-  where
-    go : (t : Bool) → eqb j k ≡ t → get_or (set heard j (get_or heard j false || b)) k false ≡ (get_or heard k false || (t && b))
-    go true e = rw (eqb-true j k e) (get_or-set_same heard k _ false h)
-    go false e = get_or-set_other heard j k _ false (λ z. eqb-false j k e (sym z)) ∙ sym (or-false _)
+and_none : (b : Bool) → (b && false) ≡ false
+and_none true = refl
+and_none false = refl
 
--- the segments heard by the first i entries
-pub record HeardTo (es : List ℕ) (cs : List ℤ) (i : ℕ) (heard : List Bool) : Type 0 where
-  pub size : length heard ≡ ours.segments
-  pub each : (k : ℕ) → k < ours.segments → get_or heard k false ≡ sounds_at k (take i es) (take i cs)
+module _ (added : List Propagation) (es : List Entry) (levels : List ℤ) where
+  abbrev counts : ℕ → Bool
+  counts j = get_or (marks_of added) j false && sounds_at j (places_of es) levels
 
-nothing_heard : (k : ℕ) (es : List ℕ) (cs : List ℤ) → sounds_at k (take 0 es) (take 0 cs) ≡ false
-unfolding sounds_at
-nothing_heard k es cs = refl
+  -- so many of the first k
+  pub record ClosePassed (k n : ℕ) : Type 0 where
+    pub is : n ≡ count_to counts k
+    pub most : n ≤ k
 
-pub heard_none : (es : List ℕ) (cs : List ℤ) → HeardTo es cs 0 (replicate ours.segments false)
-heard_none es cs = record { size = refl; each = λ k h. get_or-replicate ours.segments k false false h ∙ sym (nothing_heard k es cs) }
+  pub passed_none : ClosePassed 0 0
+  unfolding count_to
+  passed_none = record { is = refl; most = omega arith }
 
-pub heard_more : (es : List ℕ) (cs : List ℤ) (i : ℕ) (heard : List Bool) (e : ℕ) (b : Bool) → i < length es → i < length cs → HeardTo es cs i heard
-    → get_or es i 0 ≡ e → le_z (negsuc 1999) (get_or cs i (pos 0)) ≡ b → HeardTo es cs (i + 1) (marked_by heard e b)
-heard_more es cs i heard e b h l old f g =
-    record {
-      size = marked_length heard e b ∙ old.size;
-      each = λ k m. marked_at heard e k b (omega (arith, old.size)) ∙ rw (add-one, sounds_more k es cs i h l, old.each k m, f, g);
-    }
+  one_more : (k : ℕ) → count_to counts (k + 1) ≡ count_to counts k + cond (counts k) 1 0
+  unfolding count_to
+  one_more k = ap (count_to counts) (add-one k)
 
--- past the end of either list nothing more is heard
-sounds_all : (k : ℕ) (es : List ℕ) (cs : List ℤ) → sounds_at k (take (min (length es) (length cs)) es) (take (min (length es) (length cs)) cs) ≡ sounds_at k es cs
-unfolding sounds_at
-sounds_all k [] cs = rw (zero-min (length cs)) refl
-sounds_all k (e ∷ es) [] = rw (min-zero (suc (length es))) refl
-sounds_all k (e ∷ es) (c ∷ cs) =
-    rw (suc-min-suc (length es) (length cs)) (ap (λ (b : Bool). (eqb e k && le_z (negsuc 1999) c) || b) (sounds_all k es cs))
+  module _ {k n : ℕ} (p : ClosePassed k n) where
+    not_counted : counts k ≡ false → ClosePassed (k + 1) n
+    not_counted e =
+        let q : ◌≡◌ {A = ℕ} (cond (counts k) 1 0) 0 = rw e refl in
+        record { is = omega (arith, p.is, one_more k, q); most = omega (arith, p.most) }
 
-pub heard_all : (es : List ℕ) (cs : List ℤ) (i : ℕ) (heard : List Bool) → i ≡ min (length es) (length cs) → HeardTo es cs i heard → SegmentsHeard es cs heard
-heard_all es cs i heard e all = record { each = λ k h. all.each k h ∙ rw e (sounds_all k es cs) }
+    pub passed_unmarked : get_or (marks_of added) k false ≡ false → ClosePassed (k + 1) n
+    passed_unmarked e = not_counted (rw e refl)
+
+    pub passed_unheard : hears k es levels ≡ false → ClosePassed (k + 1) n
+    passed_unheard e = not_counted (rw (← hears_is k es levels, e) (and_none _))
+
+    pub passed_close : get_or (marks_of added) k false ≡ true → hears k es levels ≡ true → ClosePassed (k + 1) (n + 1)
+    passed_close e f =
+        let q : ◌≡◌ {A = ℕ} (cond (counts k) 1 0) 1 = rw (e, ← hears_is k es levels, f) refl in
+        record { is = omega (arith, p.is, one_more k, q); most = omega (arith, p.most) }
+
+  -- past the last none is marked
+  pub all_passed : {k n : ℕ} → k ≡ min (length added) ours.segments → ClosePassed k n → CloseSegments levels (places_of es) (marks_of added) n
+  all_passed {k} {n} e p = record { is = p.is ∙ go (dec_le (length added) ours.segments); most = omega (arith, p.most, e) }
+    where
+      past : length added ≤ k → (j : ℕ) → k ≤ j → counts j ≡ false
+      past h j l = ap (λ (b : Bool). b && sounds_at j (places_of es) levels) (get_or_past (marks_of added) j false (omega (arith, length-map added (λ (a : Propagation). a.close))))
+
+      go : Dec (length added ≤ ours.segments) → count_to counts k ≡ count_to counts ours.segments
+      go (yes h) =
+          let split : ours.segments ≡ k + (ours.segments - k) = omega (arith, e) in
+          sym (ap (count_to counts) split ∙ count_past counts k (ours.segments - k) (past (omega (arith, e))))
+      go (no f) = let whole : k ≡ ours.segments = omega (arith, e, lt_of_not-le f) in ap (count_to counts) whole
+
+-- a segment's mark, as the loop reads it
+pub mark_read : (added : List Propagation) (n k : ℕ) (d : Propagation) → k < length (take n added) → get_or (marks_of added) k false ≡ (get_or (take n added) k d).close
+mark_read added n k d h =
+    get_or_default (marks_of added) k false d.close (omega (arith, h, length-take n added, length-map added (λ (a : Propagation). a.close)))
+    ∙ get_or-map (λ (a : Propagation). a.close) added k d
+    ∙ ap (λ (a : Propagation). a.close) (sym (get_or-take n added k d (omega (arith, h, length-take n added))))

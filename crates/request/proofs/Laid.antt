@@ -7,13 +7,13 @@ use native.Mathlib.Nat.{le_refl}
 use lib.IntN.{ℤ}
 use lib.ListN.{length, take, drop}
 use lib.Seq.{take_at, drop_at}
-use Rattle.figures.specs.declared.Check.TheVariants.{Accepted}
 use Rattle.figures.specs.declared.Period.{Period}
 use Rattle.figures.specs.declared.Period.TheVariants.{Day, Night}
 use Rattle.study.specs.Plan.{Plan}
 use Rattle.request.specs.Levels.{levels_of, level_at, cell_of, own_marks}
 use Rattle.request.specs.Request.{levels_check, laid, first_cell, cells_by}
 use Rattle.request.proofs.Cells.{cells_of, cells_length}
+use Rattle.std.specs.Prelude.{Ok}
 
 -- the totals' own marks change no entry's level
 pub own_cells : (p : Period) (plan : Plan) → map cell_of (levels_of p plan (own_marks plan)) ≡ cells_of p plan
@@ -34,7 +34,7 @@ parts_are Night plan rest {n} e =
     ap (take n) (drop_at (cells_of Day plan) (cells_of Night plan ++ rest) n (cells_length Day plan ∙ sym e))
     ∙ take_at (cells_of Night plan) rest n (cells_length Night plan ∙ sym e)
 
-pub period_laid : (p : Period) (plan : Plan) (before : List ℤ) {after : List ℤ} {n : ℕ} → levels_check plan (length before) ≡ Accepted → after ≡ cells_by (levels_check plan (length before)) plan (own_marks plan) before
+pub period_laid : (p : Period) (plan : Plan) (before : List ℤ) {after : List ℤ} {n : ℕ} → levels_check plan (length before) ≡ Ok tt → after ≡ cells_by (levels_check plan (length before)) plan (own_marks plan) before
     → n ≡ length plan.entries → take n (drop (first_cell p n) after) ≡ cells_of p plan
 unfolding cells_by laid
 period_laid p plan before {after} {n} ok e size =

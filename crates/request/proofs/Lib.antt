@@ -8,7 +8,7 @@ pub mod Counts
 pub mod Results
 pub mod Answers
 pub mod Laid
-pub mod Studies
+pub mod Laying
 pub mod Entries
 pub mod Demand3
 pub mod Readings

@@ -1,14 +1,17 @@
 -- A period's result from its levels, and the marks that it rests on, which 01 allows.
 -- Assumes nothing.
 use mathlib.Core.Path.{◌≡◌, refl, sym, ap, ◌∙◌, subst}
-use mathlib.Core.Bool.{Bool, false, cond, ◌&&◌}
+use mathlib.Core.Bool.{Bool, false, cond, ◌&&◌, true}
 use Prim.Native.Nat.{ℕ, ◌+◌, ◌≤◌, min}
 use native.Mathlib.Nat.{min_comm}
 use native.Mathlib.Omega.{arith}
 use lib.IntN.{ℤ}
 use lib.ListN.{length, get_or, take, length-take}
+use native.Mathlib.Nat.{min-eq_left, lt_of_not-le}
+use native.Mathlib.Decide.{dec_le}
 use lib.Seq.{take_all}
 use mathlib.Core.List.{List, map}
+use Rattle.std.specs.Int.{from_bool}
 use Rattle.energy.specs.declared.Total.{Total}
 use Rattle.energy.specs.Total.{heard, total_by, TotalMark}
 use Rattle.energy.specs.Mark.{total_mark, total_of}
@@ -21,27 +24,26 @@ use Rattle.propagation.proofs.SegmentSum.{own_mark_allowed}
 use Rattle.study.specs.Add.{ours}
 use Rattle.request.specs.declared.PeriodResult.{PeriodResult}
 use Rattle.study.specs.Plan.{Plan, segment_at}
-use Rattle.study.proofs.Sizes.{take_min}
 use Rattle.request.specs.Levels.{levels_of, level_at, figures, total_mark_in, ground_marks, own_marks, close_segments, met_by, result_from, result_by, MarksAllowed}
-use Rattle.request.specs.Request.{sounds_at, count_to, period_from}
-use Rattle.request.specs.Private.{places_of, SegmentsHeard, CloseCount, CloseSegments}
+use Rattle.request.specs.Request.{sounds_at, count_to, period_from, places_of}
+use Rattle.request.specs.Private.{CloseSegments}
 use Rattle.request.proofs.Totals.{figures-kept, figures_few, cells_heard, cells_sound}
 use Rattle.request.proofs.Cells.{cells_of, cells_length}
-use Rattle.request.proofs.Counts.{count_same, count_none, own_marks_lem, close_found}
+use Rattle.request.proofs.Counts.{own_marks_lem, close_found}
 
 -- ---- a period's result
 
--- the close segments, where none is marked and where some are
-pub none_close : {levels : List ℤ} {places : List ℕ} {close : List Bool} → ((k : ℕ) → get_or close k false ≡ false) → CloseSegments levels places close 0
-none_close {levels} {places} {close} none =
-    record { is = sym (count_none (λ k. get_or close k false && sounds_at k places levels) ours.segments (λ k. ap (λ (b : Bool). b && sounds_at k places levels) (none k))); most = omega arith }
+take_min : {A : Type 0} (t : ℕ) (xs : List A) → take (min t (length xs)) xs ≡ take t xs
+take_min t xs = go (dec_le t (length xs))
+  where
+    go : Dec (t ≤ length xs) → take (min t (length xs)) xs ≡ take t xs
+    go (yes h) = ap (λ (k : ℕ). take k xs) (min-eq_left h)
+    go (no f) = let h : length xs ≤ t = omega (arith, lt_of_not-le f) in take_all (min t (length xs)) xs (omega arith) ∙ sym (take_all t xs h)
 
-pub some_close : {levels : List ℤ} {places : List ℕ} {close segments : List Bool} {count : ℕ} → SegmentsHeard places levels segments → CloseCount close segments count → CloseSegments levels places close count
-some_close {levels} {places} {close} {segments} sounds count =
-    record {
-      is = count.is ∙ count_same (λ k. get_or close k false && get_or segments k false) (λ k. get_or close k false && sounds_at k places levels) ours.segments (λ k h. ap (λ (b : Bool). get_or close k false && b) (sounds.each k h));
-      most = count.most;
-    }
+-- 1 for a mark, as the code converts it
+pub byte_is : (b : Bool) → from_bool b ≡ cond b 1 0
+byte_is true = refl
+byte_is false = refl
 
 -- as the code works it out
 pub period_from_lem : (p : Period) (levels : List ℤ) {rows : ℕ} {places : List ℕ} {close : List Bool} {t : Total} {count one : ℕ} {met : Bool} → rows ≡ min (length levels) ours.entries → t ≡ total_of (heard (take ours.entries (take rows levels)))

@@ -18,9 +18,7 @@ use Rattle.figures.specs.declared.Segment.{Segment}
 use Rattle.figures.specs.declared.Train.{Train}
 use Rattle.figures.specs.declared.Period.{Period}
 use Rattle.figures.specs.declared.Period.TheVariants.{Day, Night}
-use Rattle.figures.specs.declared.Check.{Check}
-use Rattle.figures.specs.declared.Check.TheVariants.{Accepted, Refused}
-use Rattle.figures.specs.Refusal.{check_number}
+use Rattle.figures.specs.Refusal.{check_number, Check}
 use Rattle.figures.specs.Rules.{least_speed, most_speed, row_kept, speed_kept, vehicles_kept, trains_kept, train_check, lowest_number, train_lines}
 use Rattle.figures.proofs.Numbers.{train_number_lem}
 use Rattle.propagation.specs.Propagation.{segment_breakdown_by, added_up, segment_fence}
@@ -31,7 +29,7 @@ use Rattle.emission.specs.Trains.{trains_in, sounds, trains_fence, trains_level}
 use Rattle.emission.specs.Emission.{raised, train_parts_of, train_breakdown_of, emission_of, train_fence}
 use Rattle.emission.proofs.SpeedStep.{slow_counted, typed_counted}
 use Rattle.study.specs.declared.Entry.{Entry}
-use Rattle.study.specs.Plan.{Plan, empty_plan, segment_at, plan_of}
+use Rattle.study.specs.Plan.{Plan, empty_plan, segment_at}
 use Rattle.study.specs.Add.{Limits, ours, train_answer}
 use Rattle.study.specs.Run.{Addition, segment, train, run, kept, extend, extend_all, accepted}
 use Rattle.study.proofs.Runs.{run-accepted}
@@ -39,7 +37,7 @@ use Rattle.request.specs.Entry.{level_by, entry_fence}
 use Rattle.request.specs.Levels.{Marks, mark_at, level_at, levels_of, heard_at, close_from, close_segments, result_by, ground_marks, own_marks}
 use Rattle.request.specs.Accuracy.{fences_of, Bare}
 use Rattle.request.specs.SlowTrains.{SpeedOut, is_slow, at_least_counted, as_counted, addition_as_counted, entry_as_counted, plan_as_counted, SlowTrains}
-use Rattle.request.proofs.Demand3.{ours_fit}
+use Rattle.std.specs.Prelude.{Ok, Err}
 
 -- ---- which speeds are refused
 
@@ -165,8 +163,8 @@ fence_same p s t = ap (λ (z : ℤ). segment_fence s +ℤ z) (train_fence_same p
 
 kept_same : (c : Check) (old new : Plan) → kept c (plan_as_counted old) (plan_as_counted new) ≡ plan_as_counted (kept c old new)
 unfolding kept
-kept_same Accepted old new = refl
-kept_same (Refused r) old new = refl
+kept_same (Ok _) old new = refl
+kept_same (Err r) old new = refl
 
 answer_same : (l : Limits) (count : ℕ) (es : List Entry) (t : Train) → train_answer l count (length (map entry_as_counted es)) (as_counted t) ≡ train_answer l count (length es) t
 unfolding train_answer
@@ -190,18 +188,18 @@ unfolding extend_all
 last_added l p [] a = refl
 last_added l p (x ∷ xs) a = last_added l (extend l p x) xs a
 
-train_held : (l : Limits) (p : Plan) (t : Train) → train_answer l (length p.segments) (length p.entries) t ≡ Accepted
+train_held : (l : Limits) (p : Plan) (t : Train) → train_answer l (length p.segments) (length p.entries) t ≡ Ok tt
     → (extend l p (train t)).entries ≡ p.entries ++ (record { segment = length p.segments - 1; train = t } ∷ [])
 unfolding extend kept
 train_held l p t e = rw e refl
 
-last_held : (additions : List Addition) (t : Train) → plan_of (run ours (additions ++ (train t ∷ []))) ≡ extend ours (plan_of (run ours additions)) (train t)
+last_held : (additions : List Addition) (t : Train) → run ours (additions ++ (train t ∷ [])) ≡ extend ours (run ours additions) (train t)
 unfolding accepted
-last_held additions t = rw (run-accepted ours ours_fit additions, run-accepted ours ours_fit (additions ++ (train t ∷ []))) (last_added ours empty_plan additions (train t))
+last_held additions t = rw (run-accepted ours additions, run-accepted ours (additions ++ (train t ∷ []))) (last_added ours empty_plan additions (train t))
 
-typed_same : (additions : List Addition) → plan_of (run ours (map addition_as_counted additions)) ≡ plan_as_counted (plan_of (run ours additions))
+typed_same : (additions : List Addition) → run ours (map addition_as_counted additions) ≡ plan_as_counted (run ours additions)
 unfolding accepted
-typed_same additions = rw (run-accepted ours ours_fit (map addition_as_counted additions), run-accepted ours ours_fit additions) (all_same ours empty_plan additions)
+typed_same additions = rw (run-accepted ours (map addition_as_counted additions), run-accepted ours additions) (all_same ours empty_plan additions)
 
 -- ---- the study
 
@@ -246,7 +244,7 @@ slow_trains =
       refused = λ t. (nine_only t, λ k. nine t k.0 k.1);
       slow = counts_20;
       fast = counts_typed;
-      kept = λ additions t e. ap (λ (q : Plan). q.entries) (last_held additions t) ∙ train_held ours (plan_of (run ours additions)) t e;
+      kept = λ additions t e. ap (λ (q : Plan). q.entries) (last_held additions t) ∙ train_held ours (run ours additions) t e;
       check = check_same;
       level = level_same;
       fence = fence_same;

@@ -19,12 +19,11 @@ use Rattle.figures.specs.declared.Period.{Period}
 use Rattle.emission.specs.Emission.{emission_of, raised}
 use Rattle.propagation.specs.Propagation.{segment_breakdown_by, added_up}
 use Rattle.request.specs.Entry.{level_by}
-use Rattle.figures.specs.Private.{Signed}
+use Rattle.figures.proofs.Ranged.{Signed}
 use Rattle.study.specs.declared.Entry.{Entry}
 use Rattle.study.specs.Plan.{Plan, segment_at}
 use Rattle.request.specs.Levels.{Marks, mark_at, level_at, figures, cell_of, is_heard, heard_at}
-use Rattle.request.specs.Request.{sounds_at}
-use Rattle.request.specs.Private.{places_of}
+use Rattle.request.specs.Request.{sounds_at, places_of}
 use Rattle.request.proofs.EntryLevels.{levels_lie}
 
 -- a level from -200 to 180 dB, or silent

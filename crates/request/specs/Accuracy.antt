@@ -1,21 +1,20 @@
 -- Demand 3: the bare level of what a list of additions has accepted, and how far the reported total lies from it.
 -- Assumes nothing.
-use Rattle.std.specs.Prelude.{◌≡◌, Bool, true, false, cond, ◌||◌, List, [], ◌∷◌, ℕ, ◌*◌, ◌-◌, ◌≤◌, ℤ, pos, ◌+ℤ◌, length, ◌≤ℤ◌, ◌<ℤ◌}
+use Rattle.std.specs.Prelude.{◌≡◌, Bool, true, false, cond, ◌||◌, List, [], ◌∷◌, ℕ, ◌*◌, ◌-◌, ◌≤◌, ℤ, pos, ◌+ℤ◌, length, ◌≤ℤ◌, ◌<ℤ◌, Ok}
 use Rattle.decibel.specs.Round.{micro}
 use Rattle.decibel.specs.declared.Level.TheVariants.{Figure}
 use Rattle.energy.specs.Energy.{added, BareLevel}
 use Rattle.figures.specs.declared.Period.{Period}
+use Rattle.figures.specs.Refusal.{check_of}
 use Rattle.emission.specs.Trains.{sounds}
 use Rattle.request.specs.Entry.{entry_fence}
 use Rattle.study.specs.declared.Entry.{Entry}
 use Rattle.request.specs.declared.PeriodResult.{PeriodResult}
-use Rattle.figures.specs.declared.Check.TheVariants.{Accepted}
-use Rattle.request.specs.declared.Answer.{Answer}
-use Rattle.study.specs.Plan.{Plan, segment_at, plan_of}
+use Rattle.study.specs.Plan.{Plan, segment_at}
 use Rattle.study.specs.Add.{Limits, ours}
 use Rattle.study.specs.Run.{Addition, run, accepted}
 use Rattle.request.specs.Levels.{Marks, limit_of}
-use Rattle.request.specs.Request.{cells_needed, AnsweredBy, result_in}
+use Rattle.request.specs.Request.{Answer, cells_needed, AnsweredBy, result_in}
 
 -- the fences of the entries that have trains in the period, each with its own segment
 unfoldable pub fences_of : Period → Plan → List Entry → List ℤ
@@ -69,8 +68,8 @@ abbrev pub AccurateRuns : Band → Limits → Type 0
 AccurateRuns band l =
     (additions : List Addition) (p : Period) → has_trains p (accepted l additions).entries ≡ true →
     (m : Marks) (before after : List ℤ) (r : Answer) → cells_needed (length (accepted l additions).entries) ≤ length before →
-    AnsweredBy (plan_of (run l additions)) m before after r →
-    (r.check ≡ Accepted) × AccurateToBare band p (accepted l additions) (result_in p r)
+    AnsweredBy (run l additions) m before after r →
+    (check_of r ≡ Ok tt) × AccurateToBare band p (accepted l additions) (result_in p r)
 
 -- Demand 3, the one claim, at 01's own limits. Proved as `demand_3` in proofs/Demand3.antt; `runs_accurate` there is the same at any limits up to 24 and 96
 abbrev pub Demand3 : Type 0

@@ -1,26 +1,25 @@
 -- The request for levels (01, "Turned back for the study's condition"): 23, then 24, else the levels in the cells and the two periods' results.
 -- Assumes nothing.
-use Rattle.std.specs.Prelude.{◌≡◌, Bool, false, cond, ◌&&◌, ◌||◌, List, [], ◌∷◌, ◌++◌, map, ℕ, zero, suc, ◌+◌, eqb, leb, ltb, ℤ, negsuc, length, take, drop, get_or}
+use Rattle.std.specs.Prelude.{◌≡◌, Bool, false, cond, ◌&&◌, ◌||◌, List, [], ◌∷◌, ◌++◌, map, ℕ, zero, suc, ◌+◌, eqb, leb, ltb, ℤ, pos, negsuc, length, take, drop, get_or, Result, Ok, Err}
 use Rattle.std.specs.Int.Signed.{le_z}
 use Rattle.decibel.specs.declared.Level.TheVariants.{Silent}
 use Rattle.energy.specs.Total.{heard, TotalMark}
 use Rattle.energy.specs.Mark.{total_mark, total_of}
 use Rattle.figures.specs.declared.Train.{Train}
 use Rattle.figures.specs.declared.Period.{Period}
+use Rattle.figures.specs.declared.Periods.{Periods}
+use Rattle.figures.specs.Periods.{in_period}
+use Rattle.propagation.specs.declared.Propagation.{Propagation}
 use Rattle.figures.specs.declared.Period.TheVariants.{Day, Night}
 use Rattle.figures.specs.declared.Refusal.{Refusal}
 use Rattle.figures.specs.declared.Refusal.TheVariants.{NoEntry, FewCells}
-use Rattle.figures.specs.declared.Check.{Check}
-use Rattle.figures.specs.declared.Check.TheVariants.{Accepted, Refused}
-use Rattle.figures.specs.Refusal.{unless}
+use Rattle.figures.specs.Refusal.{unless, Check, answered}
 use Rattle.figures.specs.Rules.{lowest_number}
 use Rattle.emission.specs.Emission.{raised, emission_of}
-use Rattle.study.specs.declared.Study.{Study}
+use Rattle.study.specs.declared.Entry.{Entry}
 use Rattle.request.specs.declared.PeriodResult.{PeriodResult}
-use Rattle.request.specs.declared.Answer.{Answer}
-use Rattle.request.specs.declared.EntryCells.{EntryCells}
 use Rattle.study.specs.Add.{ours}
-use Rattle.study.specs.Plan.{Plan, plan_of}
+use Rattle.study.specs.Plan.{Plan}
 use Rattle.request.specs.Levels.{Marks, levels_of, cell_of, result_from, result_by, MarksAllowed, own_marks}
 
 -- the working cells that t entries need
@@ -29,7 +28,7 @@ cells_needed t = t + t
 
 -- of so many entries that need so many of n working cells: 23 without an entry, then 24 with too few cells
 unfoldable pub request_check : ℕ → ℕ → ℕ → Check
-request_check entries needed n = unless (ltb 0 entries) NoEntry (unless (leb needed n) FewCells Accepted)
+request_check entries needed n = unless (ltb 0 entries) NoEntry (unless (leb needed n) FewCells (Ok tt))
 
 -- the same by 01's numbers
 unfoldable pub request_number : ℕ → ℕ → ℕ → ℕ
@@ -43,8 +42,8 @@ levels_number plan n = request_number (length plan.entries) (cells_needed (lengt
 
 -- the day's levels, then the night's, in entry order, then what further cells held; on a refusal the cells as they were
 unfoldable pub laid : Check → List ℤ → List ℤ → List ℤ → List ℤ
-laid Accepted day night cells = day ++ (night ++ drop (length day + length night) cells)
-laid (Refused r) day night cells = cells
+laid (Ok _) day night cells = day ++ (night ++ drop (length day + length night) cells)
+laid (Err r) day night cells = cells
 
 -- where a period's levels begin among them
 unfoldable pub first_cell : Period → ℕ → ℕ
@@ -57,13 +56,12 @@ cells_by check plan m cells = laid check (map cell_of (levels_of Day plan m)) (m
 abbrev pub silent_result : PeriodResult
 silent_result = record { level = Silent; close = 0; met = false }
 
-unfoldable pub refused_by : Refusal → Answer
-refused_by r = record { check = Refused r; day = silent_result; night = silent_result }
-
 -- a refusal, or both periods' results
+abbrev pub Answer : Type 0
+Answer = Result (Periods PeriodResult) Refusal
+
 unfoldable pub answer_of : Check → PeriodResult → PeriodResult → Answer
-answer_of Accepted day night = record { check = Accepted; day = day; night = night }
-answer_of (Refused r) day night = refused_by r
+answer_of check day night = answered check (record { day = day; night = night })
 
 abbrev pub answer_by : Check → Plan → Marks → Answer
 answer_by check plan m = answer_of check (result_by Day plan m) (result_by Night plan m)
@@ -74,23 +72,39 @@ pub record AnsweredBy (plan : Plan) (m : Marks) (before after : List ℤ) (r : A
   pub answer : r ≡ answer_by (levels_check plan (length before)) plan m
 
 -- what the request ensures: the answer by the program's own marks, and that 01 allows these
-pub record Answered (st : Study) (before after : List ℤ) (r : Answer) : Type 0 where
-  pub by : AnsweredBy (plan_of st) (own_marks (plan_of st)) before after r
-  pub allowed : MarksAllowed (plan_of st) (own_marks (plan_of st))
+pub record Answered (plan : Plan) (before after : List ℤ) (r : Answer) : Type 0 where
+  pub by : AnsweredBy plan (own_marks plan) before after r
+  pub allowed : MarksAllowed plan (own_marks plan)
 
--- the part of an answer for a period
+-- the part of an answer for a period, silent in a refusal
 unfoldable pub result_in : Period → Answer → PeriodResult
-result_in Day r = r.day
-result_in Night r = r.night
+result_in p (Ok both) = in_period p both
+result_in p (Err r) = silent_result
 
--- ---- the same from levels as computed: the cell of each entry by day and by night, the place of its segment, and the segments' close marks
+-- ---- the same from what each segment adds and the entries, whatever made them
 
 -- an entry's cells, from what its segment adds
 abbrev pub cell_in : Period → ℤ → Train → ℤ
 cell_in p tenths t = cell_of (raised tenths (emission_of p t))
 
-unfoldable pub entry_cells : ℤ → Train → EntryCells
+unfoldable pub entry_cells : ℤ → Train → Periods ℤ
 entry_cells tenths t = record { day = cell_in Day tenths t; night = cell_in Night tenths t }
+
+abbrev pub tenths_of : List Propagation → List ℤ
+tenths_of added = map (λ (a : Propagation). a.tenths) added
+
+abbrev pub marks_of : List Propagation → List Bool
+marks_of added = map (λ (a : Propagation). a.close) added
+
+abbrev pub places_of : List Entry → List ℕ
+places_of es = map (λ (e : Entry). e.segment) es
+
+-- an entry's cell, and those of all entries
+abbrev pub cell_from : Period → List ℤ → Entry → ℤ
+cell_from p tenths e = cell_in p (get_or tenths e.segment (pos 0)) e.train
+
+abbrev pub cells_from : Period → List Propagation → List Entry → List ℤ
+cells_from p added es = map (cell_from p (tenths_of added)) es
 
 -- some entry of segment k has a level: one of -200 dB or more, which no silent cell holds
 unfoldable pub sounds_at : ℕ → List ℕ → List ℤ → Bool
@@ -113,13 +127,16 @@ period_from p cells places close =
 unfoldable pub written : List ℤ → List ℤ → ℕ → List ℤ
 written levels cells at = cond (leb (at + length levels) (length cells)) (take at cells ++ levels ++ drop (at + length levels) cells) cells
 
--- the check of so many cells
-abbrev pub check_from : List ℤ → List ℤ → ℕ → Check
-check_from day night n = request_check (length day) (length day + length night) n
+abbrev pub result_from_cells : Period → List Propagation → List Entry → PeriodResult
+result_from_cells p added es = period_from p (cells_from p added es) (places_of es) (marks_of added)
+
+-- the check of so many entries with so many cells
+abbrev pub entries_check : List Entry → ℕ → Check
+entries_check es n = request_check (length es) (cells_needed (length es)) n
 
 -- the answer, the cells afterwards, and that 01 allows the mark of each total
-pub record AnsweredFrom (ds ns : List ℤ) (places : List ℕ) (close : List Bool) (before after : List ℤ) (r : Answer) : Type 0 where
-  pub cells : after ≡ laid (check_from ds ns (length before)) ds ns before
-  pub answer : r ≡ answer_of (check_from ds ns (length before)) (period_from Day ds places close) (period_from Night ns places close)
-  pub day : TotalMark (heard (take ours.entries ds)) (total_mark (heard (take ours.entries ds)))
-  pub night : TotalMark (heard (take ours.entries ns)) (total_mark (heard (take ours.entries ns)))
+pub record AnsweredFrom (added : List Propagation) (es : List Entry) (before after : List ℤ) (r : Answer) : Type 0 where
+  pub cells : after ≡ laid (entries_check es (length before)) (cells_from Day added es) (cells_from Night added es) before
+  pub answer : r ≡ answer_of (entries_check es (length before)) (result_from_cells Day added es) (result_from_cells Night added es)
+  pub day : TotalMark (heard (take ours.entries (cells_from Day added es))) (total_mark (heard (take ours.entries (cells_from Day added es))))
+  pub night : TotalMark (heard (take ours.entries (cells_from Night added es))) (total_mark (heard (take ours.entries (cells_from Night added es))))

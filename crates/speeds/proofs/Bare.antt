@@ -18,9 +18,7 @@ use Rattle.figures.specs.declared.Train.{Train}
 use Rattle.figures.specs.declared.Period.{Period}
 use Rattle.figures.specs.declared.Refusal.{Refusal}
 use Rattle.figures.specs.declared.Refusal.TheVariants.{Row, Speed, Vehicles, Trains}
-use Rattle.figures.specs.declared.Check.{Check}
-use Rattle.figures.specs.declared.Check.TheVariants.{Accepted, Refused}
-use Rattle.figures.specs.Refusal.{unless}
+use Rattle.figures.specs.Refusal.{unless, Check}
 use Rattle.figures.specs.Rules.{least_speed, most_speed, row_kept, speed_kept, vehicles_kept, trains_kept, train_check}
 use Rattle.study.specs.declared.Entry.{Entry}
 use Rattle.study.specs.Plan.{Plan, no_entry}
@@ -35,18 +33,19 @@ use Rattle.speeds.specs.Speeds.{at_speed, entry_at_speed, with_speed, own_total,
 use Rattle.speeds.specs.Laws.{BareAt}
 use Rattle.speeds.proofs.Faster.{speed_kept_lem}
 use Rattle.speeds.proofs.Silence.{has_same}
+use Rattle.std.specs.Prelude.{Ok, Err}
 
 -- ---- a plan that additions made, with an entry at another speed
 
 -- an accepted train is accepted at each speed from 1 to 300 km/h
-kept_at : (t : Train) (v : ℕ) → least_speed ≤ v → v ≤ most_speed → train_check t ≡ Accepted → train_check (at_speed v t) ≡ Accepted
+kept_at : (t : Train) (v : ℕ) → least_speed ≤ v → v ≤ most_speed → train_check t ≡ Ok tt → train_check (at_speed v t) ≡ Ok tt
 unfolding train_check row_kept vehicles_kept trains_kept unless
 kept_at t v low high e = rw (speed_kept_lem t v low high) (go (row_kept t) (speed_kept t) (vehicles_kept t) (trains_kept t) e)
   where
-    no : {why : Refusal} {A : Type 0} → ◌≡◌ {A = Check} (Refused why) Accepted → A
+    no : {why : Refusal} {A : Type 0} → ◌≡◌ {A = Check} (Err why) (Ok tt) → A
     no e = let z : ◌≡◌ {A = ℕ} 0 1 = cc in absurd (omega arith)
 
-    go : (row speed vehicles trains : Bool) → unless row Row (unless speed Speed (unless vehicles Vehicles (unless trains Trains Accepted))) ≡ Accepted → unless row Row (unless vehicles Vehicles (unless trains Trains Accepted)) ≡ Accepted
+    go : (row speed vehicles trains : Bool) → unless row Row (unless speed Speed (unless vehicles Vehicles (unless trains Trains (Ok tt)))) ≡ Ok tt → unless row Row (unless vehicles Vehicles (unless trains Trains (Ok tt))) ≡ Ok tt
     go true true vehicles trains e = e
     go true false vehicles trains e = no e
     go false speed vehicles trains e = no e

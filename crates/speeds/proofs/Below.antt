@@ -1,7 +1,6 @@
 -- Whether a level stays below a limit: by one comparison of tenths, and of a lower level too.
 -- Assumes nothing.
 use mathlib.Core.Path.{◌≡◌, refl, sym, ap, ◌∙◌}
-use mathlib.Core.Bool.{true}
 use native.Mathlib.Nat.{zero-lt-suc}
 use native.Mathlib.Omega.{arith}
 use lib.Dec.{T}
@@ -10,7 +9,7 @@ use lib.Signed.{lt_z, lt_z_yes, ◌≤ℤ◌, ◌<ℤ◌}
 use Rattle.decibel.specs.Ints.{up, dn}
 use Rattle.decibel.specs.Round.{whole_decibels}
 use Rattle.decibel.specs.declared.Level.{Level}
-use Rattle.decibel.specs.declared.Level.TheVariants.{Silent, Figure}
+use Rattle.decibel.specs.declared.Level.TheVariants.{Figure}
 use Rattle.decibel.proofs.Ints.{add_is, mul_is, floor_is, lt_is, is_lt, ints}
 use Rattle.energy.specs.Rising.{LevelAtMost, silent_lowest, figure_at_most}
 use Rattle.energy.proofs.Order.{same_test}
@@ -43,7 +42,3 @@ half_under limit r bound e = same_test (lt_z r bound) (lt_z (whole_decibels r) l
 pub figure_below : (limit : ℤ) {l : Level} {r : ℤ} → l ≡ Figure r → lt_z r (pos 10 *ℤ limit -ℤ pos 5) ≡ stays_below limit l
 unfolding stays_below
 figure_below limit {l} {r} e = half_under limit r _ refl ∙ sym (rw e refl)
-
-pub silent_below : (limit : ℤ) {l : Level} → l ≡ Silent → true ≡ stays_below limit l
-unfolding stays_below
-silent_below limit e = rw e

@@ -12,14 +12,14 @@ use lib.Signed.{◌≤ℤ◌}
 use Rattle.decibel.specs.declared.Level.{Level}
 use Rattle.decibel.specs.declared.Level.TheVariants.{Silent}
 use Rattle.decibel.proofs.Ints.{add_is, is_le, ints}
+use Rattle.energy.specs.Total.{heard}
+use Rattle.energy.specs.Mark.{total_of}
 use Rattle.energy.specs.Rising.{CellsRise, last, cell, LevelAtMost}
 use Rattle.energy.proofs.Order.{le_true}
 use Rattle.energy.proofs.Rising.{cells_rise}
 use Rattle.figures.specs.declared.Train.{Train}
 use Rattle.figures.specs.declared.Period.{Period}
 use Rattle.figures.specs.declared.Period.TheVariants.{Day, Night}
-use Rattle.figures.specs.declared.Check.{Check}
-use Rattle.figures.specs.declared.Check.TheVariants.{Accepted, Refused}
 use Rattle.figures.specs.Rules.{least_speed, most_speed, row_kept, speed_kept, vehicles_kept, trains_kept, train_check}
 use Rattle.emission.specs.Rolling.{rolling_tenths}
 use Rattle.emission.specs.Vehicles.{vehicles_fence}
@@ -30,7 +30,13 @@ use Rattle.study.specs.Add.{ours}
 use Rattle.request.specs.Levels.{cell_of}
 use Rattle.request.specs.Request.{cell_in}
 use Rattle.speeds.specs.Speeds.{at_speed}
-use Rattle.speeds.specs.Private.{total_with, total_at}
+use Rattle.speeds.specs.Private.{total_at}
+use Rattle.figures.specs.Refusal.{Check}
+use Rattle.std.specs.Prelude.{Ok, Err}
+
+-- the total of some cells with one of them changed
+abbrev pub total_with : List ℤ → ℕ → ℤ → Level
+total_with cells i c = (total_of (heard (set cells i c))).level
 
 -- ---- one train at two speeds
 
@@ -80,15 +86,15 @@ module _ (t : Train) (v w : ℕ) (low : least_speed ≤ v) (order : v ≤ w) (hi
       cell_by : Level → ℤ
       cell_by l = cell_of (raised tenths l)
 
-      by_sound : train_check slow ≡ Accepted → (b : Bool) → sounds p slow ≡ b → cell_in p tenths slow ≤ℤ cell_in p tenths fast
+      by_sound : train_check slow ≡ Ok tt → (b : Bool) → sounds p slow ≡ b → cell_in p tenths slow ≤ℤ cell_in p tenths fast
       by_sound et true e =
           rw (emits_figure p slow et e, emits_figure p fast (sym check_same ∙ et) (sym (sounds_same p) ∙ e)) (plus_under _ _ tenths (tenths_rise p))
       by_sound et false e =
           same-is-most _ _ (ap cell_by (emits_none p slow et e ∙ sym (emits_none p fast (sym check_same ∙ et) (sym (sounds_same p) ∙ e))))
 
       by_check : (x : Check) → train_check slow ≡ x → cell_in p tenths slow ≤ℤ cell_in p tenths fast
-      by_check Accepted et = by_sound et (sounds p slow) refl
-      by_check (Refused k) et = same-is-most _ _ (ap cell_by (refused_silent p slow et ∙ sym (refused_silent p fast (sym check_same ∙ et))))
+      by_check (Ok _) et = by_sound et (sounds p slow) refl
+      by_check (Err k) et = same-is-most _ _ (ap cell_by (refused_silent p slow et ∙ sym (refused_silent p fast (sym check_same ∙ et))))
 
 -- ---- a train that does not run in the period
 
@@ -96,8 +102,8 @@ pub silent_train : (p : Period) (t : Train) → sounds p t ≡ false → emissio
 silent_train p t none = go (train_check t) refl
   where
     go : (c : Check) → train_check t ≡ c → emission_of p t ≡ Silent
-    go Accepted e = emits_none p t e none
-    go (Refused k) e = refused_silent p t e
+    go (Ok _) e = emits_none p t e none
+    go (Err k) e = refused_silent p t e
 
 -- is silent at every speed
 pub silent_at : (p : Period) (t : Train) → sounds p t ≡ false → (v : ℕ) → emission_of p (at_speed v t) ≡ Silent

@@ -3,7 +3,7 @@
 use mathlib.Core.Path.{◌≡◌, refl, sym, ap, ap₂, ◌∙◌, subst, fun_ext}
 use mathlib.Core.Logic.{◌⊎◌, inl, inr, ◌↔◌}
 use mathlib.Core.Bool.{Bool, true, false, ◌&&◌}
-use Prim.Native.Nat.{ℕ, zero, suc, ◌-◌, ◌≤◌, ◌<◌}
+use Prim.Native.Nat.{ℕ, ◌-◌, ◌≤◌, ◌<◌}
 use native.Mathlib.Nat.{le_refl, lt_of_not-le}
 use native.Mathlib.Decide.{dec_le, dec_lt}
 use native.Mathlib.Omega.{arith}
@@ -15,21 +15,20 @@ use Rattle.decibel.specs.declared.Level.{Level}
 use Rattle.figures.specs.declared.Period.{Period}
 use Rattle.figures.specs.declared.Refusal.{Refusal}
 use Rattle.figures.specs.declared.Refusal.TheVariants.{EntryNumber, NoSpeed}
-use Rattle.figures.specs.declared.Check.{Check}
-use Rattle.figures.specs.declared.Check.TheVariants.{Accepted, Refused}
 use Rattle.figures.specs.Rules.{least_speed, most_speed}
 use Rattle.emission.specs.Speed.{least_counted}
 use Rattle.emission.specs.Trains.{sounds}
 use Rattle.study.specs.Plan.{Plan, no_entry}
 use Rattle.request.specs.Accuracy.{has_trains}
-use Rattle.speeds.specs.declared.SpeedAnswer.{SpeedAnswer}
-use Rattle.speeds.specs.Speeds.{with_speed, own_total, stays_below, highest_below, speed_check, speed_by, answer_at, highest_in, speed_answer}
+use Rattle.speeds.specs.Speeds.{with_speed, own_total, stays_below, highest_below, SpeedAnswer, speed_check, speed_by, speed_of, answer_at, highest_in, speed_answer}
 use Rattle.speeds.specs.Laws.{IsEntry, FewEntries, BelowAt, Highest, SpeedLaws}
 use Rattle.speeds.proofs.Below.{below_falls}
-use Rattle.speeds.proofs.Checks.{zero_outside, past_outside, none_found, some_found}
+use Rattle.speeds.proofs.Checks.{outside, none_found, some_found}
 use Rattle.speeds.proofs.OfPlan.{own_rises}
 use Rattle.speeds.proofs.Silence.{same-speed, silent_total, unheard_total}
 use Rattle.speeds.proofs.Bare.{bare_at_lem}
+use Rattle.figures.specs.Refusal.{Check, answered}
+use Rattle.std.specs.Prelude.{Ok, Err}
 
 -- ---- the highest speed of a total that goes by the speed
 
@@ -65,26 +64,32 @@ module _ (limit : ℤ) (total : ℕ → Level) where
 
 -- ---- which answer comes
 
-no_number : ◌≡◌ {A = Check} (Refused NoSpeed) (Refused EntryNumber) → ⊥
+no_number : ◌≡◌ {A = SpeedAnswer} (Err NoSpeed) (Err EntryNumber) → ⊥
 no_number e = let z : ◌≡◌ {A = ℕ} 0 1 = cc in omega arith
 
-no_accepted : {why : Refusal} → ◌≡◌ {A = Check} Accepted (Refused why) → ⊥
+no_accepted : {why : Refusal} {v : ℕ} → ◌≡◌ {A = SpeedAnswer} (Ok v) (Err why) → ⊥
 no_accepted e = let z : ◌≡◌ {A = ℕ} 0 1 = cc in omega arith
+
+same_why : {a b : Refusal} → ◌≡◌ {A = SpeedAnswer} (Err a) (Err b) → a ≡ b
+same_why e = cc
+
+same_speed : {a b : ℕ} → ◌≡◌ {A = SpeedAnswer} (Ok a) (Ok b) → a ≡ b
+same_speed e = cc
 
 -- the three ways
 data Way (entry entries v : ℕ) : Type 0 where
-  outside : ((1 ≤ entry) × (entry ≤ entries) → ⊥) → speed_check entry entries v ≡ Refused EntryNumber → Way entry entries v
-  none : (1 ≤ entry) × (entry ≤ entries) → v ≡ 0 → speed_check entry entries v ≡ Refused NoSpeed → Way entry entries v
-  some : (1 ≤ entry) × (entry ≤ entries) → 0 < v → speed_check entry entries v ≡ Accepted → Way entry entries v
+  away : ((1 ≤ entry) × (entry ≤ entries) → ⊥) → speed_check entry entries v ≡ Err EntryNumber → Way entry entries v
+  none : (1 ≤ entry) × (entry ≤ entries) → v ≡ 0 → speed_check entry entries v ≡ Err NoSpeed → Way entry entries v
+  some : (1 ≤ entry) × (entry ≤ entries) → 0 < v → speed_check entry entries v ≡ Ok tt → Way entry entries v
 
 way : (entry entries v : ℕ) → Way entry entries v
-way zero entries v = outside (λ h. omega (arith, h.0)) (zero_outside 0 entries v refl)
-way (suc k) entries v = go (dec_le (suc k) entries) (dec_le v 0)
+way entry entries v = go (dec_le 1 entry) (dec_le entry entries) (dec_le v 0)
   where
-    go : Dec (suc k ≤ entries) → Dec (v ≤ 0) → Way (suc k) entries v
-    go (no f) d = outside (λ h. f h.1) (past_outside (suc k) entries v (lt_of_not-le f))
-    go (yes h) (yes e) = none (omega arith, h) (omega arith) (none_found (suc k) entries v (omega arith) h (omega arith))
-    go (yes h) (no f) = some (omega arith, h) (lt_of_not-le f) (some_found (suc k) entries v (omega arith) h (lt_of_not-le f))
+    go : Dec (1 ≤ entry) → Dec (entry ≤ entries) → Dec (v ≤ 0) → Way entry entries v
+    go (no f) d e = away (λ h. f h.0) (outside entry entries v (λ h. f h.0))
+    go d (no f) e = away (λ h. f h.1) (outside entry entries v (λ h. f h.1))
+    go (yes g) (yes h) (yes e) = none (g, h) (omega arith) (none_found entry entries v g h (omega arith))
+    go (yes g) (yes h) (no f) = some (g, h) (lt_of_not-le f) (some_found entry entries v g h (lt_of_not-le f))
 
 module _ (plan : Plan) (entry : ℕ) (p : Period) (limit : ℤ) where
   abbrev total : ℕ → Level
@@ -105,55 +110,53 @@ module _ (plan : Plan) (entry : ℕ) (p : Period) (limit : ℤ) where
   unfolding speed_answer
   by_check c e = ap (λ (x : Check). speed_by x top) e
 
-  refused_is : {why : Refusal} → speed_check entry entries top ≡ Refused why → ((speed_answer plan entry p limit).check ≡ Refused why) × ((speed_answer plan entry p limit).speed ≡ 0)
-  unfolding speed_by
-  refused_is e = let r = by_check _ e in (ap (λ (x : SpeedAnswer). x.check) r, ap (λ (x : SpeedAnswer). x.speed) r)
+  refused_is : {why : Refusal} → speed_check entry entries top ≡ Err why → speed_answer plan entry p limit ≡ Err why
+  unfolding answered
+  refused_is e = by_check _ e
 
-  accepted_is : speed_check entry entries top ≡ Accepted → ((speed_answer plan entry p limit).check ≡ Accepted) × ((speed_answer plan entry p limit).speed ≡ top)
-  unfolding speed_by
-  accepted_is e = let r = by_check _ e in (ap (λ (x : SpeedAnswer). x.check) r, ap (λ (x : SpeedAnswer). x.speed) r)
+  accepted_is : speed_check entry entries top ≡ Ok tt → speed_answer plan entry p limit ≡ Ok top
+  unfolding answered
+  accepted_is e = by_check _ e
 
-  entry_law : ((speed_answer plan entry p limit).check ≡ Refused EntryNumber) ↔ (IsEntry plan entry → ⊥)
+  entry_law : (speed_answer plan entry p limit ≡ Err EntryNumber) ↔ (IsEntry plan entry → ⊥)
   entry_law = go (way entry entries top)
     where
-      go : Way entry entries top → ((speed_answer plan entry p limit).check ≡ Refused EntryNumber) ↔ (IsEntry plan entry → ⊥)
-      go (outside f e) = ((λ _. f), λ _. (refused_is e).0)
-      go (none h z e) = ((λ x. absurd (no_number (sym (refused_is e).0 ∙ x))), λ f. absurd (f h))
-      go (some h z e) = ((λ x. absurd (no_accepted (sym (accepted_is e).0 ∙ x))), λ f. absurd (f h))
+      go : Way entry entries top → (speed_answer plan entry p limit ≡ Err EntryNumber) ↔ (IsEntry plan entry → ⊥)
+      go (away f e) = ((λ _. f), λ _. refused_is e)
+      go (none h z e) = ((λ x. absurd (no_number (sym (refused_is e) ∙ x))), λ f. absurd (f h))
+      go (some h z e) = ((λ x. absurd (no_accepted (sym (accepted_is e) ∙ x))), λ f. absurd (f h))
 
-  speed_law : ((speed_answer plan entry p limit).check ≡ Refused NoSpeed) ↔ (IsEntry plan entry × ((v : ℕ) → least_counted ≤ v → v ≤ most_speed → BelowAt plan entry p limit v → ⊥))
+  speed_law : (speed_answer plan entry p limit ≡ Err NoSpeed) ↔ (IsEntry plan entry × ((v : ℕ) → least_counted ≤ v → v ≤ most_speed → BelowAt plan entry p limit v → ⊥))
   speed_law = go (way entry entries top)
     where
-      go : Way entry entries top → ((speed_answer plan entry p limit).check ≡ Refused NoSpeed) ↔ (IsEntry plan entry × ((v : ℕ) → least_counted ≤ v → v ≤ most_speed → BelowAt plan entry p limit v → ⊥))
-      go (outside f e) = ((λ x. absurd (no_number (sym x ∙ (refused_is e).0))), λ x. absurd (f x.0))
-      go (none h z e) = ((λ _. (h, λ v low high b. omega (arith, reached limit total v low high b, top_is))), λ _. (refused_is e).0)
+      go : Way entry entries top → (speed_answer plan entry p limit ≡ Err NoSpeed) ↔ (IsEntry plan entry × ((v : ℕ) → least_counted ≤ v → v ≤ most_speed → BelowAt plan entry p limit v → ⊥))
+      go (away f e) = ((λ x. absurd (no_number (sym x ∙ refused_is e))), λ x. absurd (f x.0))
+      go (none h z e) = ((λ _. (h, λ v low high b. omega (arith, reached limit total v low high b, top_is))), λ _. refused_is e)
       go (some h z e) =
           let f = found limit total (omega (arith, top_is)) in
-          ((λ x. absurd (no_accepted (sym (accepted_is e).0 ∙ x))), λ x. absurd (x.1 (highest_below limit total) f.0 (most limit total) f.1))
+          ((λ x. absurd (no_accepted (sym (accepted_is e) ∙ x))), λ x. absurd (x.1 (highest_below limit total) f.0 (most limit total) f.1))
 
-  highest_law : (speed_answer plan entry p limit).check ≡ Accepted → IsEntry plan entry × Highest plan entry p limit (speed_answer plan entry p limit).speed
-  highest_law x = go (way entry entries top)
+  highest_law : (v : ℕ) → speed_answer plan entry p limit ≡ Ok v → IsEntry plan entry × Highest plan entry p limit v
+  highest_law v x = go (way entry entries top)
     where
-      go : Way entry entries top → IsEntry plan entry × Highest plan entry p limit (speed_answer plan entry p limit).speed
-      go (outside f e) = absurd (no_accepted (sym x ∙ (refused_is e).0))
-      go (none h z e) = absurd (no_accepted (sym x ∙ (refused_is e).0))
+      go : Way entry entries top → IsEntry plan entry × Highest plan entry p limit v
+      go (away f e) = absurd (no_accepted (sym x ∙ refused_is e))
+      go (none h z e) = absurd (no_accepted (sym x ∙ refused_is e))
       go (some h z e) =
           let f = found limit total (omega (arith, top_is)) in (
             h,
-            rw ((accepted_is e).1, top_is)
+            rw (same_speed (sym x ∙ accepted_is e), top_is)
                 (record { least = f.0; most = most limit total; below = f.1; none_higher = λ w l m b. omega (arith, reached limit total w (omega (arith, f.0)) m b) }),
           )
 
-  refused_law : (why : Refusal) → (speed_answer plan entry p limit).check ≡ Refused why → ((why ≡ EntryNumber) ⊎ (why ≡ NoSpeed)) × ((speed_answer plan entry p limit).speed ≡ 0)
-  refused_law why x = go (way entry entries top)
+  refused_law : (why : Refusal) → speed_answer plan entry p limit ≡ Err why → ((why ≡ EntryNumber) ⊎ (why ≡ NoSpeed)) × (speed_of (speed_answer plan entry p limit) ≡ 0)
+  unfolding speed_of
+  refused_law why x = (go (way entry entries top), rw x)
     where
-      same : {a b : Refusal} → ◌≡◌ {A = Check} (Refused a) (Refused b) → a ≡ b
-      same e = cc
-
-      go : Way entry entries top → ((why ≡ EntryNumber) ⊎ (why ≡ NoSpeed)) × ((speed_answer plan entry p limit).speed ≡ 0)
-      go (outside f e) = (inl (same (sym x ∙ (refused_is e).0)), (refused_is e).1)
-      go (none h z e) = (inr (same (sym x ∙ (refused_is e).0)), (refused_is e).1)
-      go (some h z e) = absurd (no_accepted (sym (accepted_is e).0 ∙ x))
+      go : Way entry entries top → (why ≡ EntryNumber) ⊎ (why ≡ NoSpeed)
+      go (away f e) = inl (same_why (sym x ∙ refused_is e))
+      go (none h z e) = inr (same_why (sym x ∙ refused_is e))
+      go (some h z e) = absurd (no_accepted (sym (accepted_is e) ∙ x))
 
   sure : (b : Bool) → T b → b ≡ true
   sure true t = refl
@@ -163,10 +166,10 @@ module _ (plan : Plan) (entry : ℕ) (p : Period) (limit : ℤ) where
   falls : FewEntries plan → (v w : ℕ) → least_speed ≤ w → w ≤ v → v ≤ most_speed → BelowAt plan entry p limit v → BelowAt plan entry p limit w
   falls few v w low order high e = sure (stays_below limit (total w)) (below_falls limit (own_rises p plan (entry - 1) few w v low order high) (subst T (sym e) tt))
 
-  lower_law : FewEntries plan → (speed_answer plan entry p limit).check ≡ Accepted → (w : ℕ) → least_speed ≤ w → w ≤ (speed_answer plan entry p limit).speed → BelowAt plan entry p limit w
-  lower_law few x w low h = let top = (highest_law x).1 in falls few (speed_answer plan entry p limit).speed w low h top.most top.below
+  lower_law : FewEntries plan → (v : ℕ) → speed_answer plan entry p limit ≡ Ok v → (w : ℕ) → least_speed ≤ w → w ≤ v → BelowAt plan entry p limit w
+  lower_law few v x w low h = let top = (highest_law v x).1 in falls few v w low h top.most top.below
 
-  slowest_law : FewEntries plan → IsEntry plan entry → ((speed_answer plan entry p limit).check ≡ Refused NoSpeed) ↔ (BelowAt plan entry p limit least_counted → ⊥)
+  slowest_law : FewEntries plan → IsEntry plan entry → (speed_answer plan entry p limit ≡ Err NoSpeed) ↔ (BelowAt plan entry p limit least_counted → ⊥)
   slowest_law few h = (
     (λ x. (speed_law.0 x).1 least_counted (le_refl least_counted) (omega arith)),
     (λ f. speed_law.1 (h, λ v low high e. f (falls few v least_counted (omega arith) low high e))),
@@ -179,10 +182,9 @@ module _ (plan : Plan) (entry : ℕ) (p : Period) (limit : ℤ) where
 
   -- ---- silence
 
-  silent_law : sounds p (get_or plan.entries (entry - 1) no_entry).train ≡ false → (speed_answer plan entry p limit).check ≡ Accepted → (speed_answer plan entry p limit).speed ≡ most_speed
-  silent_law quiet x =
-      let top = (highest_law x).1 in
-      let v = (speed_answer plan entry p limit).speed in
+  silent_law : sounds p (get_or plan.entries (entry - 1) no_entry).train ≡ false → (v : ℕ) → speed_answer plan entry p limit ≡ Ok v → v ≡ most_speed
+  silent_law quiet v x =
+      let top = (highest_law v x).1 in
       let same : total most_speed ≡ total v = silent_total p plan (entry - 1) quiet most_speed v in
       last (dec_lt v most_speed) top.most (λ l. top.none_higher most_speed l (le_refl most_speed) (ap (stays_below limit) same ∙ top.below))
     where
@@ -190,12 +192,12 @@ module _ (plan : Plan) (entry : ℕ) (p : Period) (limit : ℤ) where
       last (yes l) h f = absurd (f l)
       last (no g) h f = omega (arith, g)
 
-  unheard_law : IsEntry plan entry → has_trains p plan.entries ≡ false → speed_answer plan entry p limit ≡ record { check = Accepted; speed = most_speed }
-  unfolding speed_by stays_below
+  unheard_law : IsEntry plan entry → has_trains p plan.entries ≡ false → speed_answer plan entry p limit ≡ Ok most_speed
+  unfolding stays_below
   unheard_law h quiet =
       let silent : BelowAt plan entry p limit most_speed = ap (stays_below limit) (unheard_total p plan (entry - 1) most_speed quiet) in
       let all : top ≡ most_speed = omega (arith, top_is, most limit total, reached limit total most_speed (omega arith) (le_refl most_speed) silent) in
-      by_check Accepted (some_found entry entries top h.0 h.1 (omega (arith, all))) ∙ ap (λ (v : ℕ). record { check = Accepted; speed = v }) all
+      accepted_is (some_found entry entries top h.0 h.1 (omega (arith, all))) ∙ ap Ok all
 
 pub speed_laws : SpeedLaws
 speed_laws =

@@ -2,7 +2,7 @@
 -- Assumes nothing.
 use mathlib.Core.Path.{◌≡◌, refl, sym, ap, ap₂, ◌∙◌, fun_ext}
 use mathlib.Core.List.{List, [], ◌∷◌, map}
-use Prim.Native.Nat.{ℕ, zero, suc, ◌-◌, ◌≤◌, ◌<◌}
+use Prim.Native.Nat.{ℕ, zero, suc, ◌-◌, ◌≤◌}
 use native.Mathlib.Omega.{arith}
 use lib.IntN.{ℤ}
 use lib.ListN.{length, take, get_or, set, length-set}
@@ -12,10 +12,8 @@ use Rattle.energy.specs.Total.{heard}
 use Rattle.energy.specs.Mark.{total_of}
 use Rattle.figures.specs.declared.Train.{Train}
 use Rattle.figures.specs.declared.Period.{Period}
-use Rattle.figures.specs.declared.Refusal.{Refusal}
 use Rattle.figures.specs.declared.Refusal.TheVariants.{EntryNumber}
-use Rattle.figures.specs.declared.Check.TheVariants.{Refused}
-use Rattle.figures.specs.Refusal.{check_number}
+use Rattle.figures.specs.Refusal.{check_number, check_of, answered}
 use Rattle.propagation.specs.Propagation.{propagation_of}
 use Rattle.study.specs.declared.Entry.{Entry}
 use Rattle.study.specs.Plan.{Plan, segment_at, no_entry}
@@ -25,11 +23,11 @@ use Rattle.request.specs.Request.{cell_in}
 use Rattle.request.proofs.Cells.{cells_of, cells_length, entry_level}
 use Rattle.request.proofs.Results.{own_level, own_allowed}
 use Rattle.request.proofs.Totals.{cells_heard}
-use Rattle.speeds.specs.declared.SpeedAnswer.{SpeedAnswer}
-use Rattle.speeds.specs.Speeds.{at_speed, entry_at_speed, with_speed, own_total, highest_below, speed_check, speed_number, speed_by, answer_at, highest_in, highest_from, speed_answer, SpeedAnswered, SpeedAnsweredFrom}
-use Rattle.speeds.specs.Private.{total_with, total_at}
-use Rattle.speeds.proofs.Faster.{Rising, speed_rises}
-use Rattle.speeds.proofs.Checks.{zero_outside, past_outside, answer_number}
+use Rattle.speeds.specs.Speeds.{at_speed, entry_at_speed, with_speed, own_total, highest_below, SpeedAnswer, speed_number, answer_at, highest_in, highest_from, speed_answer, SpeedAnswered, SpeedAnsweredFrom}
+use Rattle.speeds.specs.Private.{total_at}
+use Rattle.speeds.proofs.Faster.{total_with, Rising, speed_rises}
+use Rattle.speeds.proofs.Checks.{outside, answer_number}
+use Rattle.std.specs.Prelude.{Err}
 
 map-set : {A B : Type 0} (f : A → B) (xs : List A) (i : ℕ) (x : A) → map f (set xs i x) ≡ set (map f xs) i (f x)
 map-set f [] i x = refl
@@ -74,15 +72,9 @@ module _ (plan : Plan) (entry : ℕ) (p : Period) (limit : ℤ) (few : length pl
   unfolding highest_in highest_from
   highest_is = ap (highest_below limit) (fun_ext (λ v. total_at_lem p plan (entry - 1) v))
 
-  refused_by_lem : (why : Refusal) {r : SpeedAnswer} → speed_check entry (length plan.entries) (highest_in plan entry p limit) ≡ Refused why → r ≡ speed_by (Refused why) 0 → SpeedAnswered plan entry p limit r
-  unfolding speed_answer speed_by
-  refused_by_lem why e f = record { answer = f ∙ rw e refl; allowed = allowed_at plan (entry - 1) few }
-
-  pub zero_refused : {r : SpeedAnswer} → entry ≡ 0 → r ≡ speed_by (Refused EntryNumber) 0 → SpeedAnswered plan entry p limit r
-  zero_refused e f = refused_by_lem EntryNumber (zero_outside entry (length plan.entries) _ e) f
-
-  pub past_refused : {r : SpeedAnswer} → length plan.entries < entry → r ≡ speed_by (Refused EntryNumber) 0 → SpeedAnswered plan entry p limit r
-  past_refused h f = refused_by_lem EntryNumber (past_outside entry (length plan.entries) _ h) f
+  pub outside_refused : ((1 ≤ entry) × (entry ≤ length plan.entries) → ⊥) → SpeedAnswered plan entry p limit (Err EntryNumber)
+  unfolding speed_answer answered
+  outside_refused out = record { answer = rw (outside entry (length plan.entries) (highest_in plan entry p limit) out) refl; allowed = allowed_at plan (entry - 1) few }
 
   -- from the plan's own cells, and from the entry's level at each speed
   pub plan_answered : {cells : List ℤ} {tenths : ℤ} {t : Train} {r : SpeedAnswer} → cells ≡ cells_of p plan → ((v : ℕ) → cell_in p tenths (at_speed v t) ≡ cell_in p (added_in p plan (entry - 1)) (at_speed v (entry_in p plan (entry - 1)).train))
@@ -95,10 +87,6 @@ module _ (plan : Plan) (entry : ℕ) (p : Period) (limit : ℤ) (few : length pl
       record { answer = a.answer ∙ ap (λ (cs : List ℤ). answer_at entry (length cs) (highest_from cs entry tenths t p limit)) whole ∙ ap₂ (answer_at entry) (cells_length p plan) same; allowed = allowed_at plan (entry - 1) few }
 
 -- the answer's number
-pub plan_number : (plan : Plan) (entry : ℕ) (p : Period) (limit : ℤ) → check_number (speed_answer plan entry p limit).check ≡ speed_number entry (length plan.entries) (highest_in plan entry p limit)
+pub answered_number : {plan : Plan} {entry : ℕ} {p : Period} {limit : ℤ} {r : SpeedAnswer} → SpeedAnswered plan entry p limit r → check_number (check_of r) ≡ speed_number entry (length plan.entries) (highest_in plan entry p limit)
 unfolding speed_answer
-plan_number plan entry p limit = answer_number entry (length plan.entries) _ refl
-
-pub numbered : {plan : Plan} {entry : ℕ} {p : Period} {limit : ℤ} {r : SpeedAnswer} → SpeedAnswered plan entry p limit r
-    → SpeedAnswered plan entry p limit r × (check_number r.check ≡ speed_number entry (length plan.entries) (highest_in plan entry p limit))
-numbered {plan} {entry} {p} {limit} a = (a, ap (λ (r : SpeedAnswer). check_number r.check) a.answer ∙ plan_number plan entry p limit)
+answered_number {plan} {entry} a = answer_number entry (length plan.entries) _ a.answer

@@ -1,8 +1,8 @@
 -- The search by halves: what it keeps, and what it has found when no speed is left between its bounds.
 -- Assumes nothing.
-use mathlib.Core.Path.{◌≡◌, sym, subst}
+use mathlib.Core.Path.{◌≡◌, refl, sym, subst}
 use mathlib.Core.Bool.{Bool, true, false, ◌&&◌}
-use Prim.Native.Nat.{ℕ, ◌+◌, ◌-◌, ◌≤◌, ◌<◌}
+use Prim.Native.Nat.{ℕ, zero, suc, ◌+◌, ◌-◌, ◌≤◌, ◌<◌}
 use native.Mathlib.Omega.{arith}
 use lib.Dec.{T, leb, le→leb, leb→le}
 use lib.IntN.{ℤ}
@@ -11,6 +11,8 @@ use Rattle.decibel.proofs.Greatest.{greatest_only}
 use Rattle.figures.specs.Rules.{most_speed}
 use Rattle.emission.specs.Speed.{least_counted}
 use Rattle.speeds.specs.Speeds.{stays_below, highest_below}
+use Rattle.speeds.specs.Private.{speed_found}
+use Rattle.std.specs.Prelude.{Some}
 use Rattle.speeds.proofs.Below.{below_falls}
 use Rattle.speeds.proofs.Faster.{Rising}
 
@@ -22,10 +24,13 @@ pub record Between (limit : ℤ) (total : ℕ → Level) (low high : ℕ) : Type
   pub below : least_counted ≤ low → T (stays_below limit (total low))
   pub none : (v : ℕ) → high < v → v ≤ most_speed → T (stays_below limit (total v)) → ⊥
 
-module _ (limit : ℤ) (total : ℕ → Level) where
-  pub search_starts : Between limit total (least_counted - 1) most_speed
-  search_starts = record { least = omega arith; order = omega arith; most = omega arith; below = λ h. absurd (omega arith); none = λ v l m t. absurd (omega arith) }
+-- a speed that is one
+pub found_some : (v : ℕ) → 0 < v → Some v ≡ speed_found v
+unfolding speed_found
+found_some zero h = absurd (omega (arith, h))
+found_some (suc v) h = refl
 
+module _ (limit : ℤ) (total : ℕ → Level) where
   module _ (low high middle : ℕ) (old : Between limit total low high) (left : low < middle) (right : middle ≤ high) where
     pub search_up : stays_below limit (total middle) ≡ true → Between limit total middle high
     search_up e = record { least = omega (arith, old.least); order = right; most = old.most; below = λ h. subst T (sym e) tt; none = old.none }

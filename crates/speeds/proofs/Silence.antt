@@ -20,8 +20,7 @@ use Rattle.request.specs.Accuracy.{has_trains}
 use Rattle.request.proofs.Cells.{cells_of}
 use Rattle.request.proofs.Results.{own_level}
 use Rattle.speeds.specs.Speeds.{at_speed, entry_at_speed, with_speed, own_total}
-use Rattle.speeds.specs.Private.{total_with}
-use Rattle.speeds.proofs.Faster.{sounds_at_lem, silent_train, silent_at}
+use Rattle.speeds.proofs.Faster.{total_with, sounds_at_lem, silent_train, silent_at}
 use Rattle.speeds.proofs.OfPlan.{entry_in, added_in, total_at_lem}
 
 -- the list with the entry at a place at a speed

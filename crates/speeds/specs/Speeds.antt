@@ -1,6 +1,6 @@
 -- The highest speed at which the trains of an entry may pass the window (02, L6): an entry, a period and a limit in whole decibels.
 -- Assumes nothing.
-use Rattle.std.specs.Prelude.{◌≡◌, Bool, true, ◌&&◌, List, [], ◌∷◌, ℕ, ◌-◌, leb, ltb, ℤ, pos, length, get_or, set}
+use Rattle.std.specs.Prelude.{◌≡◌, Bool, true, ◌&&◌, List, [], ◌∷◌, ℕ, ◌-◌, leb, ltb, ℤ, pos, length, get_or, set, Result, Ok, Err}
 use Rattle.std.specs.Int.Signed.{lt_z}
 use Rattle.decibel.specs.Greatest.{greatest}
 use Rattle.decibel.specs.Round.{whole_decibels}
@@ -11,16 +11,14 @@ use Rattle.energy.specs.Mark.{total_mark, total_of}
 use Rattle.figures.specs.declared.Train.{Train}
 use Rattle.figures.specs.declared.Period.{Period}
 use Rattle.figures.specs.declared.Refusal.TheVariants.{EntryNumber, NoSpeed}
-use Rattle.figures.specs.declared.Check.{Check}
-use Rattle.figures.specs.declared.Check.TheVariants.{Accepted, Refused}
-use Rattle.figures.specs.Refusal.{unless}
+use Rattle.figures.specs.declared.Refusal.{Refusal}
+use Rattle.figures.specs.Refusal.{unless, Check, answered}
 use Rattle.figures.specs.Rules.{most_speed, lowest_number}
 use Rattle.emission.specs.Speed.{least_counted}
 use Rattle.study.specs.declared.Entry.{Entry}
 use Rattle.study.specs.Plan.{Plan, no_entry}
 use Rattle.request.specs.Levels.{result_by, own_marks, MarksAllowed}
 use Rattle.request.specs.Request.{cell_in}
-use Rattle.speeds.specs.declared.SpeedAnswer.{SpeedAnswer}
 
 -- ---- "all else being kept"
 
@@ -54,16 +52,23 @@ highest_below limit total = greatest (λ v. leb least_counted v && stays_below l
 
 -- of so many entries, counted from 1: 25 for another number, then 26 without a speed
 unfoldable pub speed_check : ℕ → ℕ → ℕ → Check
-speed_check entry entries speed = unless (leb 1 entry && leb entry entries) EntryNumber (unless (ltb 0 speed) NoSpeed Accepted)
+speed_check entry entries speed = unless (leb 1 entry && leb entry entries) EntryNumber (unless (ltb 0 speed) NoSpeed (Ok tt))
 
 -- the same by 02's numbers
 unfoldable pub speed_number : ℕ → ℕ → ℕ → ℕ
 speed_number entry entries speed = lowest_number ((25, leb 1 entry && leb entry entries) ∷ (26, ltb 0 speed) ∷ [])
 
--- the speed, and 0 with a refusal
-unfoldable pub speed_by : Check → ℕ → SpeedAnswer
-speed_by Accepted v = record { check = Accepted; speed = v }
-speed_by (Refused r) v = record { check = Refused r; speed = 0 }
+-- a refusal, or the speed
+abbrev pub SpeedAnswer : Type 0
+SpeedAnswer = Result ℕ Refusal
+
+abbrev pub speed_by : Check → ℕ → SpeedAnswer
+speed_by check v = answered check v
+
+-- the speed, and 0 with a refusal, as C is handed it
+unfoldable pub speed_of : SpeedAnswer → ℕ
+speed_of (Ok v) = v
+speed_of (Err r) = 0
 
 abbrev pub answer_at : ℕ → ℕ → ℕ → SpeedAnswer
 answer_at entry entries v = speed_by (speed_check entry entries v) v

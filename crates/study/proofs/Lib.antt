@@ -3,4 +3,3 @@ pub mod Runs
 pub mod Plans
 pub mod Listed
 pub mod Remaining
-pub mod Sizes

@@ -9,16 +9,14 @@ use borrow.Author.Tests.{eq-eqb, ne_eqb}
 use lib.Dec.{eqb}
 use lib.ListN.{length}
 use Rattle.figures.specs.declared.Segment.{Segment}
-use Rattle.figures.specs.declared.Refusal.{Refusal}
-use Rattle.figures.specs.declared.Check.TheVariants.{Accepted, Refused}
 use Rattle.study.specs.declared.Entry.{Entry}
-use Rattle.study.specs.declared.Study.{Study}
-use Rattle.study.specs.Plan.{Plan, plan_of, empty_plan, empty_study}
-use Rattle.study.specs.Add.{Limits, add_segment, add_train, with_segment, with_train}
-use Rattle.study.specs.Run.{Addition, segment, train, step, run_from, run, kept, extend, extend_all, accepted, trains_of, listed_from, listed}
-use Rattle.study.proofs.Additions.{refused_study, train_taken}
-use Rattle.study.proofs.Plans.{Each, none, next, EntryHeld, PlanHeld, check_of, accepted_only, extend-held, refused_stays, by_one}
-use Rattle.study.proofs.Runs.{LimitsFit, Sized, step_sized, empty_sized, placed-length, rows_length, step_plan, run-accepted}
+use Rattle.study.specs.Plan.{Plan, empty_plan}
+use Rattle.study.specs.Add.{Limits}
+use Rattle.study.specs.Run.{Addition, segment, train, run, kept, extend, extend_all, accepted, trains_of, listed_from, listed}
+use Rattle.study.proofs.Additions.{train_taken}
+use Rattle.study.proofs.Plans.{Each, none, next, EntryHeld, PlanHeld, answer_to, accepted_only, extend-held, refused_stays, by_one, plan_is_run}
+use Rattle.study.proofs.Runs.{run-accepted}
+use Rattle.std.specs.Prelude.{Ok}
 
 -- ---- the trains of one segment: none past the last, and one more of its own
 
@@ -76,8 +74,8 @@ module _ (l : Limits) (p : Plan) (held : PlanHeld l p) where
   unfolding listed
   listed_train e some q = list_last e p.segments p.entries some q
 
-  listed_kept : (a : Addition) → check_of l p a ≡ Accepted → listed (extend l p a) ≡ listed p ++ (a ∷ [])
-  unfolding extend check_of kept
+  listed_kept : (a : Addition) → answer_to l p a ≡ Ok tt → listed (extend l p a) ≡ listed p ++ (a ∷ [])
+  unfolding extend answer_to kept
   listed_kept (segment s) e = rw e (listed_segment s)
   listed_kept (train t) e = rw e (listed_train (record { segment = length p.segments - 1; train = t }) (train_taken l _ _ t e).some refl)
 
@@ -88,7 +86,7 @@ listed_all l [] p held = sym (append-nil (listed p))
 listed_all l (a ∷ rest) p held =
     let q = extend l p a in
     listed_all l rest q (extend-held l p held a)
-    ∙ by_one (λ (xs : List Addition). listed q ++ accepted_only l q rest ≡ listed p ++ xs) (check_of l p a) a (accepted_only l q rest)
+    ∙ by_one (λ (xs : List Addition). listed q ++ accepted_only l q rest ≡ listed p ++ xs) (answer_to l p a) a (accepted_only l q rest)
     (λ e. rw (listed_kept l p held a e) (append_assoc (listed p) (a ∷ []) (accepted_only l q rest)))
     (λ r e. ap (λ (x : Plan). listed x ++ accepted_only l q rest) (refused_stays l p a r e))
 
@@ -98,25 +96,11 @@ listed-accepted l additions = listed_all l additions empty_plan (record { count 
 
 -- ---- a study runs by those that it accepts
 
-module _ (l : Limits) (fit : LimitsFit l) (st : Study) (sized : Sized l st) where
-  refused_step : (a : Addition) (r : Refusal) → check_of l (plan_of st) a ≡ Refused r → step l st a ≡ st
-  unfolding check_of step add_segment add_train plan_of
-  refused_step (segment s) r e = refused_study st (with_segment st s) (rw (placed-length l fit st sized) at e)
-  refused_step (train t) r e = refused_study st (with_train st t) (rw (placed-length l fit st sized, rows_length l fit st sized) at e)
-
-run-kept : (l : Limits) → LimitsFit l → (additions : List Addition) (st : Study) → Sized l st → run_from l st (accepted_only l (plan_of st) additions) ≡ run_from l st additions
-unfolding run_from accepted_only
-run-kept l fit [] st sized = refl
-run-kept l fit (a ∷ rest) st sized =
-    let only = accepted_only l (extend l (plan_of st) a) rest in
-    let same : run_from l (step l st a) only ≡ run_from l (step l st a) rest =
-    rw (← step_plan l fit st sized a) (run-kept l fit rest (step l st a) (step_sized l st sized a)) in
-    by_one (λ (xs : List Addition). run_from l st xs ≡ run_from l (step l st a) rest) (check_of l (plan_of st) a) a only
-    (λ e. same)
-    (λ r e. ap (λ (x : Study). run_from l x only) (sym (refused_step l fit st sized a r e)) ∙ same)
-
 -- a study that additions made is the one of its own segments and entries
-pub run-listed : (l : Limits) → LimitsFit l → (additions : List Addition) → run l (listed (plan_of (run l additions))) ≡ run l additions
-unfolding run plan_of empty_study
-run-listed l fit additions =
-    ap (λ (p : Plan). run l (listed p)) (run-accepted l fit additions) ∙ ap (run l) (listed-accepted l additions) ∙ run-kept l fit additions empty_study (empty_sized l)
+pub run-listed : (l : Limits) (additions : List Addition) → run l (listed (run l additions)) ≡ run l additions
+run-listed l additions =
+    ap (λ (p : Plan). run l (listed p)) (run-accepted l additions)
+    ∙ ap (run l) (listed-accepted l additions)
+    ∙ run-accepted l (accepted_only l empty_plan additions)
+    ∙ plan_is_run l additions
+    ∙ sym (run-accepted l additions)

@@ -9,8 +9,6 @@ use lib.ListN.{length, get_or, length-append}
 use Rattle.figures.specs.declared.Segment.{Segment}
 use Rattle.figures.specs.declared.Train.{Train}
 use Rattle.figures.specs.declared.Refusal.{Refusal}
-use Rattle.figures.specs.declared.Check.{Check}
-use Rattle.figures.specs.declared.Check.TheVariants.{Accepted, Refused}
 use Rattle.figures.specs.Rules.{train_check}
 use Rattle.propagation.specs.Check.{segment_check}
 use Rattle.study.specs.declared.Entry.{Entry}
@@ -18,6 +16,8 @@ use Rattle.study.specs.Plan.{Plan, empty_plan, segment_at, no_segment}
 use Rattle.study.specs.Add.{Limits, segment_answer, train_answer}
 use Rattle.study.specs.Run.{Addition, segment, train, kept, extend, extend_all, accepted}
 use Rattle.study.proofs.Additions.{segment_taken, train_taken}
+use Rattle.figures.specs.Refusal.{Check}
+use Rattle.std.specs.Prelude.{Ok, Err}
 
 -- ---- each element of a list
 
@@ -45,25 +45,25 @@ module _ {A : Type 0} {P : A → Type 0} where
 -- an entry that an addition has made: of one of the segments, with a train that keeps its lines
 pub record EntryHeld (segments : List Segment) (e : Entry) : Type 0 where
   pub segment : e.segment < length segments
-  pub train : train_check e.train ≡ Accepted
+  pub train : train_check e.train ≡ Ok tt
 
 -- a plan that additions have made
 pub record PlanHeld (l : Limits) (plan : Plan) : Type 0 where
   pub count : length plan.segments ≤ l.segments
   pub total : length plan.entries ≤ l.entries
-  pub segments : Each (λ (s : Segment). segment_check s ≡ Accepted) plan.segments
+  pub segments : Each (λ (s : Segment). segment_check s ≡ Ok tt) plan.segments
   pub entries : Each (EntryHeld plan.segments) plan.entries
 
-by_kept : (P : Plan → Type 0) (check : Check) (old new : Plan) → P old → (check ≡ Accepted → P new) → P (kept check old new)
+by_kept : (P : Plan → Type 0) (check : Check) (old new : Plan) → P old → (check ≡ Ok tt → P new) → P (kept check old new)
 unfolding kept
-by_kept P Accepted old new a b = b refl
-by_kept P (Refused r) old new a b = a
+by_kept P (Ok _) old new a b = b refl
+by_kept P (Err r) old new a b = a
 
 longer : {A : Type 0} (xs : List A) (x : A) → length (xs ++ (x ∷ [])) ≡ length xs + 1
 longer xs x = length-append xs (x ∷ [])
 
 module _ (l : Limits) (p : Plan) (held : PlanHeld l p) where
-  segment_held : (s : Segment) → segment_answer l (length p.segments) s ≡ Accepted → PlanHeld l (record { segments = p.segments ++ (s ∷ []); entries = p.entries })
+  segment_held : (s : Segment) → segment_answer l (length p.segments) s ≡ Ok tt → PlanHeld l (record { segments = p.segments ++ (s ∷ []); entries = p.entries })
   segment_held s e =
       let taken = segment_taken l (length p.segments) s e in
       let more = longer p.segments s in
@@ -74,7 +74,7 @@ module _ (l : Limits) (p : Plan) (held : PlanHeld l p) where
         entries = each_map (λ x h. record { segment = omega (arith, h.segment, more); train = h.train }) held.entries;
       }
 
-  train_held : (t : Train) → train_answer l (length p.segments) (length p.entries) t ≡ Accepted
+  train_held : (t : Train) → train_answer l (length p.segments) (length p.entries) t ≡ Ok tt
       → PlanHeld l (record { segments = p.segments; entries = p.entries ++ (record { segment = length p.segments - 1; train = t } ∷ []) })
   train_held t e =
       let taken = train_taken l (length p.segments) (length p.entries) t e in
@@ -101,40 +101,40 @@ pub accepted-held : (l : Limits) (additions : List Addition) → PlanHeld l (acc
 unfolding accepted
 accepted-held l additions = all_held l empty_plan (record { count = omega arith; total = omega arith; segments = none; entries = none }) additions
 
-pub segment_kept : {l : Limits} (plan : Plan) → PlanHeld l plan → (k : ℕ) → k < length plan.segments → segment_check (segment_at plan k) ≡ Accepted
+pub segment_kept : {l : Limits} (plan : Plan) → PlanHeld l plan → (k : ℕ) → k < length plan.segments → segment_check (segment_at plan k) ≡ Ok tt
 segment_kept plan held k h = each_at held.segments k no_segment h
 
 -- ---- the additions that are not refused
 
 -- what a plan answers to an addition
-unfoldable pub check_of : Limits → Plan → Addition → Check
-check_of l p (segment s) = segment_answer l (length p.segments) s
-check_of l p (train t) = train_answer l (length p.segments) (length p.entries) t
+unfoldable pub answer_to : Limits → Plan → Addition → Check
+answer_to l p (segment s) = segment_answer l (length p.segments) s
+answer_to l p (train t) = train_answer l (length p.segments) (length p.entries) t
 
 unfoldable pub kept_one : Check → Addition → List Addition → List Addition
-kept_one Accepted a rest = a ∷ rest
-kept_one (Refused r) a rest = rest
+kept_one (Ok _) a rest = a ∷ rest
+kept_one (Err r) a rest = rest
 
 unfoldable pub accepted_only : Limits → Plan → List Addition → List Addition
 accepted_only l p [] = []
-accepted_only l p (a ∷ rest) = kept_one (check_of l p a) a (accepted_only l (extend l p a) rest)
+accepted_only l p (a ∷ rest) = kept_one (answer_to l p a) a (accepted_only l (extend l p a) rest)
 
-pub refused_stays : (l : Limits) (p : Plan) (a : Addition) (r : Refusal) → check_of l p a ≡ Refused r → extend l p a ≡ p
-unfolding extend check_of kept
+pub refused_stays : (l : Limits) (p : Plan) (a : Addition) (r : Refusal) → answer_to l p a ≡ Err r → extend l p a ≡ p
+unfolding extend answer_to kept
 refused_stays l p (segment s) r e = rw e
 refused_stays l p (train t) r e = rw e
 
 -- a statement of the additions kept of a list, from those of its two cases
-pub by_one : (P : List Addition → Type 0) (check : Check) (a : Addition) (rest : List Addition) → (check ≡ Accepted → P (a ∷ rest)) → ((r : Refusal) → check ≡ Refused r → P rest) → P (kept_one check a rest)
+pub by_one : (P : List Addition → Type 0) (check : Check) (a : Addition) (rest : List Addition) → (check ≡ Ok tt → P (a ∷ rest)) → ((r : Refusal) → check ≡ Err r → P rest) → P (kept_one check a rest)
 unfolding kept_one
-by_one P Accepted a rest f g = f refl
-by_one P (Refused r) a rest f g = g r refl
+by_one P (Ok _) a rest f g = f refl
+by_one P (Err r) a rest f g = g r refl
 
 kept-extend : (l : Limits) (additions : List Addition) (p : Plan) → extend_all l p (accepted_only l p additions) ≡ extend_all l p additions
 unfolding extend_all accepted_only
 kept-extend l [] p = refl
 kept-extend l (a ∷ rest) p =
-    by_one (λ (xs : List Addition). extend_all l p xs ≡ extend_all l (extend l p a) rest) (check_of l p a) a (accepted_only l (extend l p a) rest)
+    by_one (λ (xs : List Addition). extend_all l p xs ≡ extend_all l (extend l p a) rest) (answer_to l p a) a (accepted_only l (extend l p a) rest)
     (λ e. kept-extend l rest (extend l p a))
     (λ r e.
     subst (λ (q : Plan). extend_all l q (accepted_only l (extend l p a) rest) ≡ extend_all l (extend l p a) rest) (refused_stays l p a r e) (kept-extend l rest (extend l p a)))
@@ -148,7 +148,7 @@ kept_again : (l : Limits) (additions : List Addition) (p : Plan) → accepted_on
 unfolding accepted_only kept_one
 kept_again l [] p = refl
 kept_again l (a ∷ rest) p =
-    by_one (λ (xs : List Addition). accepted_only l p xs ≡ xs) (check_of l p a) a (accepted_only l (extend l p a) rest)
+    by_one (λ (xs : List Addition). accepted_only l p xs ≡ xs) (answer_to l p a) a (accepted_only l (extend l p a) rest)
     (λ e. rw e (ap (λ (xs : List Addition). a ∷ xs) (kept_again l rest (extend l p a))))
     (λ r e.
     subst (λ (q : Plan). accepted_only l q (accepted_only l (extend l p a) rest) ≡ accepted_only l (extend l p a) rest) (refused_stays l p a r e) (kept_again l rest (extend l p a)))

@@ -1,19 +1,17 @@
 -- The additions to a study: what each answers, for every study and every figure (01, "Turned back").
 -- Assumes nothing.
-use Rattle.std.specs.Prelude.{not, cond, ℕ, ◌+◌, ◌-◌, leb, eqb, set}
+use Rattle.std.specs.Prelude.{not, cond, [], ◌∷◌, ◌++◌, ℕ, ◌-◌, leb, eqb, length, Result, Ok, Err, IfOk}
 use Rattle.figures.specs.declared.Segment.{Segment}
 use Rattle.figures.specs.declared.Train.{Train}
+use Rattle.figures.specs.declared.Refusal.{Refusal}
 use Rattle.figures.specs.declared.Refusal.TheVariants.{NoSegment, SegmentLimit, EntryLimit}
-use Rattle.figures.specs.declared.Check.{Check}
-use Rattle.figures.specs.declared.Check.TheVariants.{Accepted, Refused}
-use Rattle.figures.specs.Refusal.{unless, first_refused, is_accepted}
+use Rattle.figures.specs.Refusal.{Check, unless, first_refused, answered}
 use Rattle.figures.specs.Rules.{train_check, lowest_number, train_lines}
-use Rattle.propagation.specs.declared.Judgement.{Judgement}
+use Rattle.propagation.specs.declared.Propagation.{Propagation}
 use Rattle.propagation.specs.Check.{segment_check, segment_lines}
-use Rattle.propagation.specs.Ground.{SegmentMarkBy}
-use Rattle.propagation.specs.Propagation.{propagation_of, no_propagation}
-use Rattle.study.specs.declared.Study.{Study}
-use Rattle.study.specs.declared.Added.{Added}
+use Rattle.propagation.specs.Ground.{SegmentMark}
+use Rattle.propagation.specs.Propagation.{propagation_of}
+use Rattle.study.specs.Plan.{Plan}
 
 -- how many segments and entries a study may hold
 pub record Limits : Type 0 where
@@ -25,7 +23,7 @@ ours = record { segments = 24; entries = 96 }
 
 -- 21: with so many segments held, none may be added
 unfoldable pub segment_limit : Limits → ℕ → Check
-segment_limit l count = unless (not (leb l.segments count)) SegmentLimit Accepted
+segment_limit l count = unless (not (leb l.segments count)) SegmentLimit (Ok tt)
 
 -- "These come first": the state's refusal, then the segment's own lines
 unfoldable pub segment_answer : Limits → ℕ → Segment → Check
@@ -35,21 +33,17 @@ segment_answer l count s = first_refused (segment_limit l count) (segment_check 
 unfoldable pub segment_number : Limits → ℕ → Segment → ℕ
 segment_number l count s = cond (leb l.segments count) 21 (lowest_number (segment_lines s))
 
--- that answer, and what the segment adds where it is accepted
-unfoldable pub segment_judgement : Limits → ℕ → Segment → Judgement
-segment_judgement l count s =
-    record {
-      check = segment_answer l count s;
-      propagation = cond (is_accepted (segment_answer l count s)) (propagation_of s) no_propagation;
-    }
+-- what the segment adds where it is accepted, else that refusal
+unfoldable pub segment_judgement : Limits → ℕ → Segment → Result Propagation Refusal
+segment_judgement l count s = answered (segment_answer l count s) (propagation_of s)
 
--- the mark is one that 01 allows the segment, and none where it is refused
-pub record SegmentJudgementAllowed (l : Limits) (count : ℕ) (s : Segment) (r : Judgement) : Type 0 where
-  pub mark : SegmentMarkBy (is_accepted (segment_answer l count s)) s r.propagation.close
+-- 01 allows the mark of what it adds
+abbrev pub SegmentMarked : Segment → Result Propagation Refusal → Type 0
+SegmentMarked s r = IfOk r (λ (added : Propagation). SegmentMark s added.close)
 
 -- 20 without a segment, then 22: with so many entries held, none may be added
 unfoldable pub train_limit : Limits → ℕ → ℕ → Check
-train_limit l count total = unless (not (eqb count 0)) NoSegment (unless (not (leb l.entries total)) EntryLimit Accepted)
+train_limit l count total = unless (not (eqb count 0)) NoSegment (unless (not (leb l.entries total)) EntryLimit (Ok tt))
 
 -- likewise, then the train's own lines
 unfoldable pub train_answer : Limits → ℕ → ℕ → Train → Check
@@ -59,22 +53,29 @@ train_answer l count total t = first_refused (train_limit l count total) (train_
 unfoldable pub train_number : Limits → ℕ → ℕ → Train → ℕ
 train_number l count total t = cond (eqb count 0) 20 (cond (leb l.entries total) 22 (lowest_number (train_lines t)))
 
--- the study with the segment after its last
-unfoldable pub with_segment : Study → Segment → Study
-with_segment st s = record { segments = set st.segments st.count s; count = st.count + 1; entries = st.entries; total = st.total }
+-- the plan with the segment after its last
+abbrev pub with_segment : Plan → Segment → Plan
+with_segment p s = record { segments = p.segments ++ (s ∷ []); entries = p.entries }
 
--- the study with the train after its last entry, at its last segment
-unfoldable pub with_train : Study → Train → Study
-with_train st t =
-    record { segments = st.segments; count = st.count; entries = set st.entries st.total (record { segment = st.count - 1; train = t }); total = st.total + 1 }
+-- the plan with the train after its last entry, at its last segment
+abbrev pub with_train : Plan → Train → Plan
+with_train p t = record { segments = p.segments; entries = p.entries ++ (record { segment = length p.segments - 1; train = t } ∷ []) }
+
+-- what an addition answers, and the study then
+pub record Added : Type 0 where
+  pub check : Check
+  pub study : Plan
+
+abbrev pub added : Check → Plan → Added
+added check study = record { check = check; study = study }
 
 -- a refusal with the study as it was, or the new study
-unfoldable pub answer : Check → Study → Study → Added
-answer Accepted old new = record { check = Accepted; study = new }
-answer (Refused r) old new = record { check = Refused r; study = old }
+unfoldable pub answer : Check → Plan → Plan → Added
+answer (Ok _) old new = added (Ok tt) new
+answer (Err r) old new = added (Err r) old
 
-unfoldable pub add_segment : Limits → Study → Segment → Added
-add_segment l st s = answer (segment_answer l st.count s) st (with_segment st s)
+unfoldable pub add_segment : Limits → Plan → Segment → Added
+add_segment l p s = answer (segment_answer l (length p.segments) s) p (with_segment p s)
 
-unfoldable pub add_train : Limits → Study → Train → Added
-add_train l st t = answer (train_answer l st.count st.total t) st (with_train st t)
+unfoldable pub add_train : Limits → Plan → Train → Added
+add_train l p t = answer (train_answer l (length p.segments) (length p.entries) t) p (with_train p t)

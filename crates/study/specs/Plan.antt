@@ -1,11 +1,9 @@
--- What a study holds (01, "The study"): its segments and its train entries in order, each entry with the place of its segment.
+-- What a study holds (01, "The study"): its segments and its train entries in order, each entry with the place of its segment. Clauses see a `Study` as its plan.
 -- Assumes nothing.
-use Rattle.std.specs.Prelude.{List, [], ℕ, min, pos, take, get_or, replicate}
+use Rattle.std.specs.Prelude.{List, [], ℕ, pos, get_or}
 use Rattle.figures.specs.declared.Segment.{Segment}
 use Rattle.figures.specs.declared.Train.{Train}
 use Rattle.study.specs.declared.Entry.{Entry}
-use Rattle.study.specs.declared.Study.{Study}
-use Rattle.study.specs.declared.lists.Holdings.{Holdings}
 
 pub record Plan : Type 0 where
   pub segments : List Segment
@@ -27,18 +25,3 @@ no_entry = record { segment = 0; train = no_train }
 
 abbrev pub segment_at : Plan → ℕ → Segment
 segment_at plan k = get_or plan.segments k no_segment
-
--- the one account of what a study holds, which the promises about levels cite
-unfoldable pub plan_of : Study → Plan
-plan_of st = record { segments = take st.count st.segments; entries = take st.total st.entries }
-
--- the study value that holds the first so many of some segments and entries
-abbrev pub held_by : List Segment → ℕ → List Entry → ℕ → Study
-held_by segments count entries total = record { segments = segments; count = count; entries = entries; total = total }
-
--- what another crate reads of a study: its arrays, with as many places as they have; `opens` of proofs/Sizes.antt says that its plan is the study's
-unfoldable pub holdings_of : Study → Holdings
-holdings_of st = record { count = min st.count 24; total = min st.total 96; segments = st.segments; entries = st.entries }
-
-unfoldable pub empty_study : Study
-empty_study = record { segments = replicate 24 no_segment; count = 0; entries = replicate 96 no_entry; total = 0 }

@@ -1,43 +1,41 @@
 -- A list of additions from the empty study, refused ones in it (01, "Contracts and evidence"): the study that it makes, and what the list alone says was accepted.
 -- Assumes nothing.
-use Rattle.std.specs.Prelude.{cond, List, [], ◌∷◌, ◌++◌, ℕ, ◌+◌, ◌-◌, eqb, length}
+use Rattle.std.specs.Prelude.{cond, List, [], ◌∷◌, ◌++◌, ℕ, ◌+◌, eqb, length, Ok, Err}
 use Rattle.figures.specs.declared.Segment.{Segment}
 use Rattle.figures.specs.declared.Train.{Train}
-use Rattle.figures.specs.declared.Check.{Check}
-use Rattle.figures.specs.declared.Check.TheVariants.{Accepted, Refused}
 use Rattle.study.specs.declared.Entry.{Entry}
-use Rattle.study.specs.declared.Study.{Study}
-use Rattle.study.specs.Plan.{Plan, empty_plan, empty_study}
-use Rattle.study.specs.Add.{Limits, segment_answer, train_answer, add_segment, add_train}
+use Rattle.study.specs.Plan.{Plan, empty_plan}
+use Rattle.study.specs.Add.{Limits, segment_answer, train_answer, with_segment, with_train, add_segment, add_train}
+use Rattle.figures.specs.Refusal.{Check}
 
 pub data Addition : Type 0 where
   segment : Segment → Addition
   train : Train → Addition
 
 -- each addition gets the study that the one before it returned, refused or not
-unfoldable pub step : Limits → Study → Addition → Study
+unfoldable pub step : Limits → Plan → Addition → Plan
 step l st (segment s) = (add_segment l st s).study
 step l st (train t) = (add_train l st t).study
 
-unfoldable pub run_from : Limits → Study → List Addition → Study
+unfoldable pub run_from : Limits → Plan → List Addition → Plan
 run_from l st [] = st
 run_from l st (a ∷ rest) = run_from l (step l st a) rest
 
-unfoldable pub run : Limits → List Addition → Study
-run l additions = run_from l empty_study additions
+unfoldable pub run : Limits → List Addition → Plan
+run l additions = run_from l empty_plan additions
 
 -- ---- over plain lists: the accepted ones in order, each entry with the last accepted segment before it
 
 unfoldable pub kept : Check → Plan → Plan → Plan
-kept Accepted old new = new
-kept (Refused r) old new = old
+kept (Ok _) old new = new
+kept (Err r) old new = old
 
 unfoldable pub extend : Limits → Plan → Addition → Plan
 extend l p (segment s) =
-    kept (segment_answer l (length p.segments) s) p (record { segments = p.segments ++ (s ∷ []); entries = p.entries })
+    kept (segment_answer l (length p.segments) s) p (with_segment p s)
 extend l p (train t) =
     kept (train_answer l (length p.segments) (length p.entries) t) p
-    (record { segments = p.segments; entries = p.entries ++ (record { segment = length p.segments - 1; train = t } ∷ []) })
+    (with_train p t)
 
 unfoldable pub extend_all : Limits → Plan → List Addition → Plan
 extend_all l p [] = p

@@ -1,17 +1,16 @@
 // A study: segments and train entries, added one after another and refused where document 01 says so.
 #![tactic(auto)]
 
-mod lists;
-
-ghost use Rattle.std.specs.Prelude.{◌≡◌, min};
-ghost use Rattle.figures.specs.Refusal.{check_number};
-ghost use Rattle.study.specs.Plan.{no_segment, no_train, no_entry, empty_study, plan_of, held_by};
-ghost use Rattle.study.specs.Add.{ours, segment_limit, segment_answer, segment_number, segment_judgement, SegmentJudgementAllowed, train_limit, train_answer, train_number, add_segment, add_train};
+ghost use Rattle.std.specs.Prelude.{◌≡◌, ◌≤◌, length};
+ghost use Rattle.figures.specs.Refusal.{check_number, check_of};
+ghost use Rattle.study.specs.Plan.{Plan, empty_plan};
+ghost use Rattle.study.specs.Add.{ours, segment_limit, segment_answer, segment_number, segment_judgement, SegmentMarked, train_limit, train_answer, train_number, added, add_segment, add_train};
 ghost use Rattle.study.specs.Run.{run_from, listed};
 
-use figures::{Check, Refusal, Segment, Train};
-pub use lists::{Holdings, holdings_of};
-use propagation::Judgement;
+use arrayvec::ArrayVec;
+use figures::{Refusal, Segment, Train};
+use propagation::Propagation;
+use std::marker::Model;
 
 // How many segments, and how many train entries in all, a study may hold.
 pub const MOST_SEGMENTS: usize = 24;
@@ -19,208 +18,144 @@ pub const MOST_SEGMENTS: usize = 24;
 pub const MOST_ENTRIES: usize = 96;
 
 // A train entry with the place of its segment, from 0.
-#[derive(Clone, Copy)]
+#[derive(Clone, Copy, Default)]
 pub struct Entry {
     pub segment: usize,
     pub train: Train,
 }
 
-// Segments and train entries, up to so many. Nothing but this crate makes or changes one.
-#[derive(Clone, Copy)]
-pub struct Study {
-    segments: [Segment; MOST_SEGMENTS],
-    count: usize,
-    entries: [Entry; MOST_ENTRIES],
-    total: usize,
-}
-
-// What an addition answers: the refusal with the study as it was, or the new study.
-#[derive(Clone, Copy)]
-pub struct Added {
-    pub study: Study,
-    pub check: Check,
-}
-
-// What stands in a place that no segment was added to.
-pub fn no_segment() -> Segment
-    ensures { result ≡ no_segment }
-{
-    Segment {
-        distance: 0,
-        height: 0,
-        mean: 0,
-        soft: 0,
-        view: 0,
-        doubled: 0,
-        screen: 0,
-        setback: 0,
-        top: 0,
-        chart: 0,
-        track: 0,
-        ballast: 0,
-        facade: 0,
-        opposite: 0,
-        wall: 0,
-    }
-}
-
-// What stands in a place that no train was added to.
-pub fn no_train() -> Train
-    ensures { result ≡ no_train }
-{
-    Train {
-        row: 0,
-        speed: 0,
-        vehicles: 0,
-        day: 0,
-        night: 0,
-    }
-}
-
-// What stands in a place that no entry was added to.
-fn no_entry() -> Entry
-    ensures { result ≡ no_entry }
-{
-    Entry {
-        segment: 0,
-        train: no_train(),
-    }
-}
-
-// The study with nothing in it.
-pub fn empty() -> Study
-    ensures { result ≡ empty_study }
-{
-    Study {
-        segments: [no_segment(); MOST_SEGMENTS],
-        count: 0,
-        entries: [no_entry(); MOST_ENTRIES],
-        total: 0,
-    }
-}
-
 // Whether so many segments leave room for one more.
-fn segment_limit(count: usize) -> Check
+#[tactic(auto, using(crate::proofs::Additions::segments_full, crate::proofs::Additions::segments_room))]
+fn segment_limit(count: usize) -> Result<(), Refusal>
     ensures { result ≡ segment_limit ours count }
 {
     if MOST_SEGMENTS <= count {
-        return Check::Refused(Refusal::SegmentLimit);
+        return Err(Refusal::SegmentLimit);
     }
-    Check::Accepted
+    Ok(())
 }
 
 // Whether a segment may be added to so many: 21 at the limit, then its own lines.
-fn segment_answer(count: usize, segment: Segment) -> Check
+#[tactic(auto, unfolding(crate::specs::Add::segment_answer, figures::specs::Refusal::first_refused), using(crate::proofs::Additions::segment_answered))]
+pub fn segment_answer(count: usize, segment: Segment) -> Result<(), Refusal>
     ensures is { result ≡ segment_answer ours count segment }
     ensures number { check_number result ≡ segment_number ours count segment }
 {
-    let limit = segment_limit(count);
-    figures::first_refused(limit, propagation::segment_check(segment))
+    segment_limit(count)?;
+    propagation::segment_check(segment)
 }
 
-// The same answer, and what the segment adds to the level of each of its entries, judged once; nothing of a refused one.
-pub fn segment_judgement(count: usize, segment: Segment) -> Judgement
+// The same answer, and what the segment adds to the level of each of its entries.
+#[tactic(auto, unfolding(crate::specs::Add::segment_judgement, crate::specs::Add::segment_answer, figures::specs::Refusal::first_refused, figures::specs::Refusal::answered, propagation::specs::Propagation::judgement_of), using(crate::proofs::Additions::judgement_number))]
+pub fn segment_judgement(count: usize, segment: Segment) -> Result<Propagation, Refusal>
     ensures is { result ≡ segment_judgement ours count segment }
-    ensures allowed { SegmentJudgementAllowed ours count segment result }
-    ensures number { check_number result.check ≡ segment_number ours count segment }
+    ensures allowed { SegmentMarked segment result }
+    ensures number { check_number (check_of result) ≡ segment_number ours count segment }
 {
-    match segment_limit(count) {
-        Check::Accepted => propagation::judged(segment),
-        Check::Refused(refusal) => propagation::refusal_judgement(refusal),
-    }
-}
-
-// The study with the segment after its last, or the refusal and the study as it was.
-pub fn add_segment(mut study: Study, segment: Segment) -> Added
-    ensures is { result ≡ add_segment ours study segment }
-    ensures number { check_number result.check ≡ segment_number ours study.count segment }
-{
-    let at = study.count;
-    let check = segment_answer(at, segment);
-    if let Check::Accepted = check {
-        study.segments[at] = segment;
-        study.count = at + 1;
-    }
-    Added { study, check }
+    segment_limit(count).and_then(|()| propagation::judged(segment))
 }
 
 // Whether there is a segment, and so many entries leave room for one more.
-fn train_limit(count: usize, total: usize) -> Check
+#[tactic(auto, using(crate::proofs::Additions::no_segment_lem, crate::proofs::Additions::entries_full, crate::proofs::Additions::entries_room))]
+fn train_limit(count: usize, total: usize) -> Result<(), Refusal>
     ensures { result ≡ train_limit ours count total }
 {
     if count == 0 {
-        return Check::Refused(Refusal::NoSegment);
+        return Err(Refusal::NoSegment);
     }
     if MOST_ENTRIES <= total {
-        return Check::Refused(Refusal::EntryLimit);
+        return Err(Refusal::EntryLimit);
     }
-    Check::Accepted
+    Ok(())
 }
 
 // Whether a train may be added to so many segments and entries: 20 without a segment, 22 at the limit, then its own lines.
-pub fn train_answer(count: usize, total: usize, train: Train) -> Check
+#[tactic(auto, unfolding(crate::specs::Add::train_answer, figures::specs::Refusal::first_refused), using(crate::proofs::Additions::train_answered))]
+pub fn train_answer(count: usize, total: usize, train: Train) -> Result<(), Refusal>
     ensures is { result ≡ train_answer ours count total train }
     ensures number { check_number result ≡ train_number ours count total train }
 {
-    let limit = train_limit(count, total);
-    figures::first_refused(limit, figures::ranges::train_check(train))
+    train_limit(count, total)?;
+    figures::ranges::train_check(train)
 }
 
-// The study with the train at its last segment, or the refusal and the study as it was.
-pub fn add_train(mut study: Study, train: Train) -> Added
-    ensures is { result ≡ add_train ours study train }
-    ensures number { check_number result.check ≡ train_number ours study.count study.total train }
-{
-    let count = study.count;
-    let at = study.total;
-    let check = train_answer(count, at, train);
-    if let Check::Accepted = check {
-        study.entries[at] = Entry {
-            segment: count - 1,
-            train: train,
-        };
-        study.total = at + 1;
-    }
-    Added { study, check }
+// Segments and train entries, up to so many, seen as its plan. Nothing but this crate makes or changes one.
+#[derive(Drop)]
+pub struct Study {
+    segments: ArrayVec<Segment, MOST_SEGMENTS>,
+    entries: ArrayVec<Entry, MOST_ENTRIES>,
 }
 
-// The smaller of two numbers.
-fn at_most(n: usize, most: usize) -> usize
-    ensures { result ≡ min n most }
-{
-    if n < most { n } else { most }
+impl Model for Study {
+    ghost Value = { Plan };
+
+    ghost view = { λ s. record { segments = s.segments.items; entries = s.entries.items } };
 }
 
-// The study with the additions of these lists after its own: each segment, then the trains of its entries. What is refused adds nothing,
-// and an entry at no segment of the lists is left out.
-pub fn extended(
-    start: Study,
-    segments: [Segment; MOST_SEGMENTS],
-    count: usize,
-    entries: [Entry; MOST_ENTRIES],
-    total: usize,
-) -> Study
-    ensures { result ≡ run_from ours start (listed (plan_of (held_by segments count entries total))) }
-{
-    let places = at_most(count, MOST_SEGMENTS);
-    let rows = at_most(total, MOST_ENTRIES);
-    let mut study = start;
-    let mut k: usize = 0;
-    while k < places {
-        let segment = segments[k];
-        let lined = add_segment(study, segment);
-        study = lined.study;
-        let mut i: usize = 0;
-        while i < rows {
-            let entry = entries[i];
-            if entry.segment == k {
-                let train = entry.train;
-                let added = add_train(study, train);
-                study = added.study;
-            }
-            i += 1;
+impl Study {
+    // The study with nothing in it.
+    pub fn new() -> Self
+        ensures { result ≡ empty_plan }
+    {
+        Study {
+            segments: ArrayVec::new(),
+            entries: ArrayVec::new(),
         }
-        k += 1;
     }
-    study
+
+    // Its segments in order.
+    pub fn segments(&self) -> &[Segment]
+        ensures is { result.now ≡ self.now.segments }
+        ensures most { length result.now ≤ 24 }
+    {
+        self.segments.as_slice()
+    }
+
+    // Its train entries in order, each with the place of its segment.
+    pub fn entries(&self) -> &[Entry]
+        ensures is { result.now ≡ self.now.entries }
+        ensures most { length result.now ≤ 96 }
+    {
+        self.entries.as_slice()
+    }
+
+    // Adds the segment after the last, or refuses it and leaves the study as it was.
+    #[tactic(auto, unfolding(crate::specs::Add::add_segment, crate::specs::Add::answer), using(crate::proofs::Additions::segment_taken))]
+    pub fn add_segment(&mut self, segment: Segment) -> Result<(), Refusal>
+        ensures is { added result self.new ≡ add_segment ours self.old segment }
+        ensures number { check_number result ≡ segment_number ours (length self.old.segments) segment }
+    {
+        segment_answer(self.segments.len(), segment)?;
+        self.segments.push(segment);
+        Ok(())
+    }
+
+    // Adds the train at the last segment, or refuses it and leaves the study as it was.
+    #[tactic(auto, unfolding(crate::specs::Add::add_train, crate::specs::Add::answer), using(crate::proofs::Additions::train_taken))]
+    pub fn add_train(&mut self, train: Train) -> Result<(), Refusal>
+        ensures is { added result self.new ≡ add_train ours self.old train }
+        ensures number { check_number result ≡ train_number ours (length self.old.segments) (length self.old.entries) train }
+    {
+        let count = self.segments.len();
+        train_answer(count, self.entries.len(), train)?;
+        self.entries.push(Entry {
+            segment: count - 1,
+            train,
+        });
+        Ok(())
+    }
+
+    // Adds what another study holds after its own: each segment, then the trains of its entries. What is refused adds nothing.
+    pub fn append(&mut self, other: &Study)
+        ensures { self.new ≡ run_from ours self.old (listed other.now) }
+    {
+        for (k, segment) in other.segments().iter().enumerate() {
+            let _ = self.add_segment(*segment);
+            for entry in other.entries() {
+                if entry.segment == k {
+                    let _ = self.add_train(entry.train);
+                }
+            }
+        }
+    }
 }

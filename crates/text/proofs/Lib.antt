@@ -8,6 +8,5 @@ pub mod Counted
 pub mod Accuracy
 pub mod Worked
 pub mod Reached
-pub mod Levels
 pub mod TextAnswers
 pub mod EnoughCells

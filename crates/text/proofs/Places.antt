@@ -1,24 +1,14 @@
--- What stands at a position of a text: no line, bytes that no line feed ends, or a line; and what is read of it.
+-- What is left of a text: no line, bytes that no line feed ends, or a line; and what the reading answers then.
 -- Assumes nothing.
-use mathlib.Core.Path.{◌≡◌, refl, sym, ap, ◌∙◌}
-use mathlib.Core.Logic.{⊎_elim}
-use Prim.Native.Nat.{ℕ, suc, ◌+◌, ◌≤◌, ◌<◌}
-use mathlib.Core.List.{List, [], ◌∷◌}
-use native.Mathlib.Omega.{arith}
-use lib.ListN.{length, drop, length-drop, drop_of_length-le}
-use lib.Seq.{drop-drop}
-use borrow.Author.Tests.{lt-ltb, le-ltb}
-use Rattle.figures.specs.declared.Refusal.{Refusal}
+use Rattle.std.proofs.Common.{◌≡◌, ℕ, suc, ◌<◌, Bool, true, false, cond, eqb, leb, Ok, List, [], ◌∷◌, length, Option, None, Some, sym, refl, ap, ◌∙◌, arith, eqb-true}
+use borrow.Author.Tests.{eqb-false}
 use Rattle.figures.specs.declared.Refusal.TheVariants as R
-use Rattle.figures.specs.declared.Check.{Check}
-use Rattle.figures.specs.declared.Check.TheVariants.{Refused}
-use Rattle.study.specs.declared.Study.{Study}
+use Rattle.figures.proofs.Kept.{refused_not}
 use Rattle.study.specs.Add.{ours}
-use Rattle.lines.specs.Bytes.{until, split}
-use Rattle.text.specs.Text.{Line, ended, unended, last_line, lines_in, lines_of, Kind, add_line}
-use Rattle.text.specs.Private.{Found, first_adds, fault_of}
-use Rattle.lines.proofs.Bytes.{split_first, until-within}
-use Rattle.lines.proofs.Cases.{lt_or_ge}
+use Rattle.lines.specs.Bytes.{until, past, split}
+use Rattle.lines.proofs.Bytes.{split_first}
+use Rattle.text.specs.Text.{ended, unended, last_line, lines_in, lines_of, add_line, refused_at, read_from, read_text}
+use Rattle.text.specs.Private.{NextLine, NoLine, first_adds}
 
 last_torn : (u : List ℕ) → 0 < length u → last_line u ≡ unended ∷ []
 last_torn [] h = absurd (omega arith)
@@ -28,85 +18,75 @@ lines_more : (u x : List ℕ) → lines_in (u ∷ split 10 x) ≡ ended u ∷ li
 unfolding lines_in
 lines_more u x = rw (split_first 10 x)
 
-pub data View (text : List ℕ) (at : ℕ) : Type 0 where
-  at_end : length text ≤ at → lines_of (drop at text) ≡ [] → View text at
-  at_torn : at < length text → at + length (until 10 (drop at text)) ≡ length text → lines_of (drop at text) ≡ unended ∷ [] → View text at
-  at_line_lem : at + length (until 10 (drop at text)) + 1 ≤ length text
-      → lines_of (drop at text) ≡ ended (until 10 (drop at text)) ∷ lines_of (drop (at + length (until 10 (drop at text)) + 1) text) → View text at
+-- without a separator all is the first part
+until_all : (sep : ℕ) (s : List ℕ) → past sep s ≡ None → until sep s ≡ s
+unfolding until past
+until_all sep [] e = refl
+until_all sep (b ∷ bs) e = go (eqb b sep) (until_all sep bs) e
+  where
+    go : (t : Bool) → (past sep bs ≡ None → until sep bs ≡ bs) → cond t (Some bs) (past sep bs) ≡ None → cond t [] (b ∷ until sep bs) ≡ b ∷ bs
+    go true f q = cc
+    go false f q = ap {B = List ℕ} (λ r. b ∷ r) (f q)
 
-pub view : (text : List ℕ) (at : ℕ) → View text at
+pub past_shorter : (sep : ℕ) (s : List ℕ) {rest : List ℕ} → past sep s ≡ Some rest → length rest < length s
+unfolding past
+past_shorter sep [] e = cc
+past_shorter sep (b ∷ bs) {rest} e = go (eqb b sep) (λ q. past_shorter sep bs q) e
+  where
+    go : (t : Bool) → (past sep bs ≡ Some rest → length rest < length bs) → cond t (Some bs) (past sep bs) ≡ Some rest → length rest < suc (length bs)
+    go true f q = let z : bs ≡ rest = cc in omega (arith, ap length z)
+    go false f q = omega (arith, f q)
+
+pub data View (text : List ℕ) : Type 0 where
+  at_end : length text ≡ 0 → lines_of text ≡ [] → View text
+  at_torn : 0 < length text → lines_of text ≡ unended ∷ [] → View text
+  at_line : (rest : List ℕ) → past 10 text ≡ Some rest → lines_of text ≡ ended (until 10 text) ∷ lines_of rest → View text
+
+line_first : (text : List ℕ) {rest : List ℕ} → past 10 text ≡ Some rest → lines_of text ≡ ended (until 10 text) ∷ lines_of rest
+unfolding lines_of
+line_first text {rest} e = rw (split_first 10 text, e) (lines_more (until 10 text) rest)
+
+line_torn : (text : List ℕ) → past 10 text ≡ None → 0 < length text → lines_of text ≡ unended ∷ []
+unfolding lines_of lines_in
+line_torn text e h = rw (split_first 10 text, e, until_all 10 text e) (last_torn text h)
+
+empty_lines : lines_of [] ≡ []
 unfolding lines_of lines_in split
-view text at = ⊎_elim (λ h. ⊎_elim (more h) (rest h) (lt_or_ge k (length (drop at text)))) none (lt_or_ge at (length text))
+empty_lines = refl
+
+pub view : (text : List ℕ) → View text
+view text = go (past 10 text) refl text refl
   where
-    k : ℕ
-    k = length (until 10 (drop at text))
+    go : (o : Option (List ℕ)) → past 10 text ≡ o → (s : List ℕ) → text ≡ s → View text
+    go (Some rest) e s q = at_line rest e (line_first text e)
+    go None e [] q = rw q (at_end refl empty_lines)
+    go None e (b ∷ bs) q = at_torn (omega (arith, ap length q)) (line_torn text e (omega (arith, ap length q)))
 
-    none : length text ≤ at → View text at
-    none h = at_end h (rw (drop_of_length-le text h))
+-- ---- the next line, as the text is split
 
-    rest : at < length text → length (drop at text) ≤ k → View text at
-    rest h l =
-        at_torn h (omega (arith, length-drop at text, until-within 10 text at (omega arith)))
-        (rw (split_first 10 (drop at text), le-ltb k (length (drop at text)) l) (last_torn (until 10 (drop at text)) (omega (arith, length-drop at text))))
+pub line_next : (text : List ℕ) {line rest : List ℕ} → (line ≡ until 10 text) × (past 10 text ≡ Some rest) → NextLine text line rest
+line_next text e = record { is = rw e.0 (line_first text e.1); ahead = past_shorter 10 text e.1 }
 
-    more : at < length text → k < length (drop at text) → View text at
-    more h l =
-        let e : at + suc k ≡ at + k + 1 = omega arith in
-        at_line_lem (omega (arith, length-drop at text))
-        (rw (split_first 10 (drop at text), lt-ltb k (length (drop at text)) l, drop-drop (suc k) at text, e) (lines_more (until 10 (drop at text)) (drop (at + k + 1) text)))
+-- no line feed ends it
+pub line_none : (text : List ℕ) → past 10 text ≡ None → false ≡ eqb (length text) 0 → NoLine text R.Form
+unfolding first_adds add_line
+line_none text e h =
+    let some = eqb-false (length text) 0 (sym h) in
+    let torn = line_torn text e (omega arith) in
+    record { adds = λ kind st. rw torn; opens = rw torn }
 
--- a line that a line feed ends
-pub record Standing (text : List ℕ) (at : ℕ) (line : List ℕ) : Type 0 where
-  pub is : line ≡ until 10 (drop at text)
-  pub feed : at + length line < length text
+pub nothing_next : (text : List ℕ) → true ≡ eqb (length text) 0 → NoLine text R.Contents
+unfolding first_adds
+nothing_next [] e = record { adds = λ kind st. rw empty_lines; opens = rw empty_lines }
+nothing_next (b ∷ bs) e = let none = eqb-true (length (b ∷ bs)) 0 (sym e) in absurd (omega arith)
 
-pub found_stands : (text : List ℕ) (at : ℕ) {line : List ℕ} → line ≡ until 10 (drop at text) → at + length line < length text → Standing text at line
-found_stands text at e h = record { is = e; feed = h }
-
-pub line_stands : {text : List ℕ} {at : ℕ} {line : List ℕ} → Standing text at line → lines_of (drop at text) ≡ ended line ∷ lines_of (drop (at + length line + 1) text)
-line_stands {text} {at} {line} w = go (view text at)
+-- an accepted text has a first line
+pub torn_refused : (text : List ℕ) → past 10 text ≡ None → (read_text ours text).check ≡ Ok tt → ⊥
+unfolding read_text
+torn_refused text e ok = go (leb (length text) 16384) ok (view text)
   where
-    go : View text at → lines_of (drop at text) ≡ ended line ∷ lines_of (drop (at + length line + 1) text)
-    go (at_end m e) = absurd (omega arith)
-    go (at_torn m z e) = absurd (omega (arith, ap length w.is))
-    go (at_line_lem m e) = rw w.is e
-
--- what the line at a position answers, on each way
-module _ (kind : Kind) (st : Study) where
-  -- no line feed ends it
-  pub unended_refused : (text : List ℕ) (at : ℕ) {line : List ℕ} → line ≡ until 10 (drop at text) → length text ≤ at + length line → {f : Refusal} → f ≡ fault_of (lines_of (drop at text))
-      → first_adds kind st (lines_of (drop at text)) ≡ Refused f
-  unfolding first_adds add_line
-  unended_refused text at q h e = rw e (go (view text at))
-    where
-      go : View text at → first_adds kind st (lines_of (drop at text)) ≡ Refused (fault_of (lines_of (drop at text)))
-      go (at_end m l) = rw l
-      go (at_torn m z l) = rw l
-      go (at_line_lem m l) = absurd (omega (arith, ap length q))
-
-  -- what its addition answers
-  pub first_answer : (xs : List Line) {line : Line} {rest : List Line} {c : Check} → xs ≡ line ∷ rest → (add_line ours kind st line).check ≡ c → first_adds kind st xs ≡ c
-  unfolding first_adds
-  first_answer xs l e = rw l e
-
--- the fields that were read there
-pub fields_found : {A : Type 0} (read : List ℕ → A) {text : List ℕ} {at : ℕ} {line : List ℕ} → Standing text at line → {r fields : A} → r ≡ read line → r ≡ fields → Found read fields text at (at + length line + 1)
-fields_found read {line = line} w e z = record { line = line; is = sym z ∙ e; ahead = omega arith; within = omega arith; lines = line_stands w }
-
--- why no line could be read there
-module _ (text : List ℕ) (at : ℕ) where
-  pub fault_missing : length text ≤ at → R.Contents ≡ fault_of (lines_of (drop at text))
-  fault_missing h = go (view text at)
-    where
-      go : View text at → R.Contents ≡ fault_of (lines_of (drop at text))
-      go (at_end m e) = rw e
-      go (at_torn m z e) = absurd (omega arith)
-      go (at_line_lem m e) = absurd (omega arith)
-
-  pub fault_form : at < length text → R.Form ≡ fault_of (lines_of (drop at text))
-  fault_form h = go (view text at)
-    where
-      go : View text at → R.Form ≡ fault_of (lines_of (drop at text))
-      go (at_end m e) = absurd (omega arith)
-      go (at_torn m z e) = rw e
-      go (at_line_lem m e) = rw e
+    go : (t : Bool) → (cond t (read_from ours (lines_of text)) (refused_at R.Form 0)).check ≡ Ok tt → View text → ⊥
+    go false q v = refused_not q
+    go true q (at_end m l) = refused_not (rw l at q)
+    go true q (at_torn m l) = refused_not (rw l at q)
+    go true q (at_line rest m l) = let z : ◌≡◌ {A = Option (List ℕ)} None (Some rest) = sym e ∙ m in cc

@@ -1,12 +1,11 @@
 -- No text is refused by 20 or more: contents that are in range leave room for every line that they announce.
 -- Assumes nothing.
 use mathlib.Core.Path.{◌≡◌, refl, sym, ap, ◌∙◌}
-use Prim.Native.Nat.{ℕ, zero, suc, ◌+◌, ◌≤◌, ◌<◌}
-use mathlib.Core.List.{List, [], ◌∷◌}
+use Prim.Native.Nat.{ℕ, zero, suc, ◌+◌, ◌≤◌, ◌<◌, ◌-◌}
+use mathlib.Core.List.{List, [], ◌∷◌, ◌++◌}
 use mathlib.Core.Bool.{Bool, true, false, cond, ◌&&◌, true≢false}
-use mathlib.Core.Option.{Option, none, some}
 use native.Mathlib.Omega.{arith}
-use lib.ListN.{length}
+use lib.ListN.{length, length-append}
 use lib.Dec.{leb}
 use lib.IntN.{ℤ, pos, negsuc}
 use borrow.Author.Tests.{ne_eqb, lt-leb, leb-true}
@@ -14,26 +13,19 @@ use Rattle.figures.specs.declared.Segment.{Segment}
 use Rattle.figures.specs.declared.Train.{Train}
 use Rattle.figures.specs.declared.Refusal.{Refusal}
 use Rattle.figures.specs.declared.Refusal.TheVariants as R
-use Rattle.figures.specs.declared.Check.{Check}
-use Rattle.figures.specs.declared.Check.TheVariants.{Accepted, Refused}
-use Rattle.figures.specs.Refusal.{number_of, check_number, unless, first_refused}
+use Rattle.figures.specs.Refusal.{number_of, check_number, unless, first_refused, Check}
 use Rattle.figures.specs.Rules.{train_check, distance_kept, heights_kept, soft_kept, angles_kept, screen_kept, ranges_then, readings_kept, row_kept, speed_kept, vehicles_kept, trains_kept}
 use Rattle.figures.proofs.Kept.{refused_not}
 use Rattle.propagation.specs.Check.{segment_check}
 use Rattle.propagation.specs.Screen.{shadow_kept}
-use Rattle.study.specs.declared.Study.{Study}
-use Rattle.study.specs.declared.Added.{Added}
-use Rattle.study.specs.Plan.{empty_study}
-use Rattle.study.specs.Add.{Limits, segment_limit, segment_answer, train_limit, train_answer, with_segment, with_train, answer, add_segment, add_train}
+use Rattle.study.specs.declared.Entry.{Entry}
+use Rattle.study.specs.Plan.{Plan, empty_plan}
+use Rattle.study.specs.Add.{Limits, Added, segment_limit, segment_answer, train_limit, train_answer, with_segment, with_train, answer, add_segment, add_train}
 use Rattle.lines.specs.Numbers.{front, numbers_of}
+use Rattle.std.specs.Prelude.{Option, None, Some, Result, Ok, Err}
 use Rattle.lines.specs.Lines.{segment_of, train_of}
-use Rattle.lines.specs.Contents.{Read, refused, counts, is_count, counts_in, sum_of_counts, between, in_all, contents_in, contents_of}
-use Rattle.text.specs.Text.{Line, ended, unended, lines_of, Kind, segment_kind, train_kind, trains, kinds_of, refused_addition, segment_adds, train_adds, add_line, refused_at, after, read_lines, read_body, read_from, read_text}
-use Rattle.text.specs.declared.Reading.{Reading}
-use Rattle.lines.specs.declared.fields.SegmentLine.{SegmentLine}
-use Rattle.lines.specs.declared.fields.SegmentLine.TheVariants as S
-use Rattle.lines.specs.declared.fields.TrainLine.{TrainLine}
-use Rattle.lines.specs.declared.fields.TrainLine.TheVariants as T
+use Rattle.lines.specs.Contents.{is_count, counts_in, sum_of_counts, between, in_all, contents_in, contents_of}
+use Rattle.text.specs.Text.{Reading, Line, ended, unended, lines_of, Kind, segment_kind, train_kind, trains, kinds_of, refused_addition, segment_adds, train_adds, add_line, refused_at, after, read_lines, read_body, read_from, read_text}
 
 -- accepted, or refused by a number up to 13
 abbrev Own : Check → Type 0
@@ -79,58 +71,58 @@ led count (segment_kind ∷ ps) h = tt
 led count (train_kind ∷ ps) h = h
 
 -- room for the lines to come
-record Room (l : Limits) (st : Study) (ps : List Kind) : Type 0 where
-  segments : st.count + segments_in ps ≤ l.segments
-  entries : st.total + trains_in ps ≤ l.entries
-  begun : Led st.count ps
+record Room (l : Limits) (st : Plan) (ps : List Kind) : Type 0 where
+  segments : (length st.segments) + segments_in ps ≤ l.segments
+  entries : (length st.entries) + trains_in ps ≤ l.entries
+  begun : Led (length st.segments) ps
 
 -- an addition's answer, and the room after it where it is accepted
 abbrev Fine : Limits → List Kind → Added → Type 0
-Fine l ps a = Own a.check × (a.check ≡ Accepted → Room l a.study ps)
+Fine l ps a = Own a.check × (a.check ≡ Ok tt → Room l a.study ps)
 
-module _ (l : Limits) (st : Study) (ps : List Kind) where
-  answer_fine : (c : Check) (new : Study) → Own c → Room l new ps → Fine l ps (answer c st new)
+module _ (l : Limits) (st : Plan) (ps : List Kind) where
+  answer_fine : (c : Check) (new : Plan) → Own c → Room l new ps → Fine l ps (answer c st new)
   unfolding answer
-  answer_fine Accepted new o room = (o, λ e. room)
-  answer_fine (Refused r) new o room = (o, λ e. refused_not e)
+  answer_fine (Ok _) new o room = (o, λ e. room)
+  answer_fine (Err r) new o room = (o, λ e. refused_not e)
 
   malformed_fine : Fine l ps (refused_addition st R.Form)
   unfolding check_number number_of
   malformed_fine = (omega arith, λ e. refused_not e)
 
   segment_fine : Room l st (segment_kind ∷ ps) → (s : Segment) → Fine l ps (add_segment l st s)
-  unfolding add_segment segment_answer segment_limit with_segment unless first_refused
+  unfolding add_segment segment_answer segment_limit unless first_refused
   segment_fine h s =
-      rw (lt-leb l.segments st.count (omega (arith, h.segments)))
+      rw (lt-leb l.segments (length st.segments) (omega (arith, h.segments)))
       (answer_fine (segment_check s) (with_segment st s) (segment_own s)
-      (record { segments = omega (arith, h.segments); entries = h.entries; begun = led (st.count + 1) ps (omega arith) }))
+      (record { segments = omega (arith, h.segments, length-append st.segments (s ∷ [])); entries = h.entries; begun = led (length (st.segments ++ (s ∷ []))) ps (omega (arith, length-append st.segments (s ∷ []))) }))
 
   train_fine : Room l st (train_kind ∷ ps) → (t : Train) → Fine l ps (add_train l st t)
-  unfolding add_train train_answer train_limit with_train unless first_refused
+  unfolding add_train train_answer train_limit unless first_refused
   train_fine h t =
-      rw (ne_eqb st.count 0 (omega (arith, h.begun)), lt-leb l.entries st.total (omega (arith, h.entries)))
+      rw (ne_eqb (length st.segments) 0 (omega (arith, h.begun)), lt-leb l.entries (length st.entries) (omega (arith, h.entries)))
       (answer_fine (train_check t) (with_train st t) (train_own t)
-      (record { segments = h.segments; entries = omega (arith, h.entries); begun = led st.count ps h.begun }))
+      (record { segments = h.segments; entries = omega (arith, h.entries, length-append {A = Entry} st.entries (record { segment = length st.segments - 1; train = t } ∷ [])); begun = led (length st.segments) ps h.begun }))
 
-line_fine : (l : Limits) (p : Kind) (st : Study) (ps : List Kind) (x : Line) → Room l st (p ∷ ps) → Fine l ps (add_line l p st x)
+line_fine : (l : Limits) (p : Kind) (st : Plan) (ps : List Kind) (x : Line) → Room l st (p ∷ ps) → Fine l ps (add_line l p st x)
 unfolding add_line
 line_fine l p st ps unended h = malformed_fine l st ps
 line_fine l segment_kind st ps (ended line) h = go (segment_of line)
   where
-    go : (r : SegmentLine) → Fine l ps (segment_adds l st r)
-    go S.Malformed = malformed_fine l st ps
-    go (S.Fields s) = segment_fine l st ps h s
+    go : (r : Option Segment) → Fine l ps (segment_adds l st r)
+    go None = malformed_fine l st ps
+    go (Some s) = segment_fine l st ps h s
 line_fine l train_kind st ps (ended line) h = go (train_of line)
   where
-    go : (r : TrainLine) → Fine l ps (train_adds l st r)
-    go T.Malformed = malformed_fine l st ps
-    go (T.Fields t) = train_fine l st ps h t
+    go : (r : Option Train) → Fine l ps (train_adds l st r)
+    go None = malformed_fine l st ps
+    go (Some t) = train_fine l st ps h t
 
-after_own : (c : Check) (k : ℕ) (rest : Reading) → Own c → (c ≡ Accepted → Own rest.check) → Own (after c k rest).check
-after_own Accepted k rest o f = f refl
-after_own (Refused r) k rest o f = o
+after_own : (c : Check) (k : ℕ) (rest : Reading) → Own c → (c ≡ Ok tt → Own rest.check) → Own (after c k rest).check
+after_own (Ok _) k rest o f = f refl
+after_own (Err r) k rest o f = o
 
-lines_own : (l : Limits) (st : Study) (k : ℕ) (ps : List Kind) (xs : List Line) → Room l st ps → Own (read_lines l st k ps xs).check
+lines_own : (l : Limits) (st : Plan) (k : ℕ) (ps : List Kind) (xs : List Line) → Room l st ps → Own (read_lines l st k ps xs).check
 unfolding read_lines check_number number_of
 lines_own l st k [] [] h = omega arith
 lines_own l st k [] (x ∷ xs) h = omega arith
@@ -169,13 +161,13 @@ kinds_trains (c ∷ cs) = trains-trains c (kinds_of cs) ∙ ap (λ (n : ℕ). c 
 
 -- as many counts as there are numbers
 abbrev Long : ℕ → Option (List ℕ) → Type 0
-Long n none = Unit {0}
-Long n (some cs) = length cs ≡ n
+Long n None = Unit {0}
+Long n (Some cs) = length cs ≡ n
 
 front_long : (n c : ℕ) (o : Option (List ℕ)) → Long n o → Long (suc n) (front c o)
 unfolding front
-front_long n c none h = tt
-front_long n c (some cs) h = ap suc h
+front_long n c None h = tt
+front_long n c (Some cs) h = ap suc h
 
 counts_long : (most : ℕ) (vs : List ℤ) → Long (length vs) (counts_in most vs)
 unfolding counts_in
@@ -183,14 +175,14 @@ counts_long most [] = refl
 counts_long most (negsuc c ∷ vs) = tt
 counts_long most (pos c ∷ vs) = go (leb c most) (front_long (length vs) c (counts_in most vs) (counts_long most vs))
   where
-    go : (t : Bool) → Long (suc (length vs)) (front c (counts_in most vs)) → Long (suc (length vs)) (cond t (front c (counts_in most vs)) none)
+    go : (t : Bool) → Long (suc (length vs)) (front c (counts_in most vs)) → Long (suc (length vs)) (cond t (front c (counts_in most vs)) None)
     go true h = h
     go false h = tt
 
 -- what the contents give
-abbrev pub Given : Limits → Read → Type 0
-Given l (refused r) = number_of r ≤ 13
-Given l (counts cs) = (length cs ≤ l.segments) × (sum_of_counts cs ≤ l.entries)
+abbrev pub Given : Limits → Result (List ℕ) Refusal → Type 0
+Given l (Err r) = number_of r ≤ 13
+Given l (Ok cs) = (length cs ≤ l.segments) × (sum_of_counts cs ≤ l.entries)
 
 within : (low high n : ℕ) → between low high n ≡ true → n ≤ high
 within low high n e = leb-true n high (right (leb low n) (leb n high) e)
@@ -202,30 +194,30 @@ within low high n e = leb-true n high (right (leb low n) (leb n high) e)
 module _ (l : Limits) where
   in_all_given : (n : ℕ) → n ≤ l.segments → (o : Option (List ℕ)) → Long n o → Given l (in_all l o)
   unfolding number_of
-  in_all_given n h none q = omega arith
-  in_all_given n h (some cs) q = go (between 1 l.entries (sum_of_counts cs)) refl
+  in_all_given n h None q = omega arith
+  in_all_given n h (Some cs) q = go (between 1 l.entries (sum_of_counts cs)) refl
     where
-      go : (t : Bool) → between 1 l.entries (sum_of_counts cs) ≡ t → Given l (cond t (counts cs) (refused R.Contents))
+      go : (t : Bool) → between 1 l.entries (sum_of_counts cs) ≡ t → Given l (cond t (Ok cs) (Err R.Contents))
       go true e = (omega arith, within 1 l.entries (sum_of_counts cs) e)
       go false e = omega arith
 
   pub contents_given : (o : Option (List ℤ)) → Given l (contents_in l o)
   unfolding number_of
-  contents_given none = omega arith
-  contents_given (some []) = omega arith
-  contents_given (some (v ∷ vs)) = go (is_count v (length vs)) (between 1 l.segments (length vs)) refl
+  contents_given None = omega arith
+  contents_given (Some []) = omega arith
+  contents_given (Some (v ∷ vs)) = go (is_count v (length vs)) (between 1 l.segments (length vs)) refl
     where
       go : (s t : Bool) → between 1 l.segments (length vs) ≡ t
-          → Given l (cond s (cond t (in_all l (counts_in l.entries vs)) (refused R.Contents)) (refused R.Form))
+          → Given l (cond s (cond t (in_all l (counts_in l.entries vs)) (Err R.Contents)) (Err R.Form))
       go true true e = in_all_given (length vs) (within 1 l.segments (length vs) e) (counts_in l.entries vs) (counts_long l.entries vs)
       go true false e = omega arith
       go false t e = omega arith
 
-  body_own : (r : Read) (xs : List Line) → Given l r → Own (read_body l r xs).check
-  unfolding check_number empty_study
-  body_own (refused r) xs g = g
-  body_own (counts cs) xs g =
-      lines_own l empty_study 2 (kinds_of cs) xs
+  body_own : (r : Result (List ℕ) Refusal) (xs : List Line) → Given l r → Own (read_body l r xs).check
+  unfolding check_number
+  body_own (Err r) xs g = g
+  body_own (Ok cs) xs g =
+      lines_own l empty_plan 2 (kinds_of cs) xs
       (record { segments = omega (arith, kinds_segments cs, g.0); entries = omega (arith, kinds_trains cs, g.1); begun = kinds_led cs })
 
   from_own : (xs : List Line) → Own (read_from l xs).check

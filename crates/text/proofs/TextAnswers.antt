@@ -7,38 +7,37 @@ use Prim.Native.Nat.{ℕ, zero-le}
 use lib.IntN.{ℤ}
 use lib.ListN.{length}
 use Rattle.figures.specs.declared.Refusal.{Refusal}
-use Rattle.figures.specs.declared.Check.{Check}
-use Rattle.figures.specs.declared.Check.TheVariants.{Accepted, Refused}
-use Rattle.figures.specs.Refusal.{check_number, is_accepted}
-use Rattle.study.specs.declared.Study.{Study}
-use Rattle.study.specs.Plan.{Plan, plan_of, empty_study}
+use Rattle.figures.specs.declared.Period.TheVariants.{Day, Night}
+use Rattle.text.specs.declared.Fault.{Fault}
+use Rattle.figures.specs.Refusal.{check_number, check_of, Check}
+use Rattle.study.specs.Plan.{Plan, empty_plan}
 use Rattle.study.specs.Add.{ours}
-use Rattle.request.specs.declared.Answer.{Answer}
-use Rattle.request.specs.Levels.{own_marks, MarksAllowed}
-use Rattle.request.specs.Request.{levels_number, refused_by}
+use Rattle.request.specs.Levels.{result_by, own_marks, MarksAllowed}
+use Rattle.request.specs.Request.{Answer, Answered, answer_of, levels_check, levels_number}
 use Rattle.request.proofs.Answers.{plan_number}
 use Rattle.request.proofs.Results.{own_allowed}
-use Rattle.text.specs.declared.Reading.{Reading}
-use Rattle.text.specs.declared.TextAnswer.{TextAnswer}
-use Rattle.text.specs.Text.{read_text, refused_at, accepted_with}
-use Rattle.text.specs.Answer.{at_line, answer_with, cells_with, text_answer, text_number, text_answer_number, TextAnswered}
-use Rattle.text.specs.Private.{Answers, refused_answer, PlanAnswered}
+use Rattle.text.specs.Text.{Reading, read_text, refused_at, accepted_with}
+use Rattle.text.specs.Answer.{TextAnswer, reading_of, check_at, refused_line, at_line, answer_with, cells_with, text_answer, text_number, text_answer_number, TextAnswered}
+use Rattle.text.specs.Private.{Answers}
+use Rattle.std.specs.Prelude.{Result, Ok, Err, is_ok, MatchResult}
 
-empty_allowed : MarksAllowed (plan_of empty_study) (own_marks (plan_of empty_study))
-unfolding plan_of empty_study
-empty_allowed = own_allowed (plan_of empty_study) zero-le
+empty_allowed : MarksAllowed empty_plan (own_marks empty_plan)
+empty_allowed = own_allowed empty_plan zero-le
 
 -- a refusal leaves the cells as they were
-pub refused_answers : {reading : Reading} {f : Refusal} {line : ℕ} {before after : List ℤ} {r : TextAnswer} → after ≡ before → reading ≡ refused_at f line → r ≡ refused_answer f line → Answers reading before after r
-unfolding refused_answer answer_with cells_with refused_by
-refused_answers same e a = rw e (record { answer = a; cells = same; allowed = empty_allowed })
+pub refused_answers : {reading : Reading} {f : Refusal} {line : ℕ} {before after : List ℤ} → after ≡ before → reading ≡ refused_at f line → Answers reading before after (refused_line f line)
+unfolding answer_with cells_with
+refused_answers same e = rw e (record { answer = refl; cells = same; allowed = empty_allowed })
 
 -- an accepted reading's plan is asked for its levels
-pub accepted_answers : {reading : Reading} {st : Study} {before cells after : List ℤ} {a : Answer} {r : TextAnswer} → cells ≡ before → reading ≡ accepted_with st → PlanAnswered (plan_of st) cells after a → r ≡ at_line 0 a → Answers reading before after r
+pub accepted_answers : {reading : Reading} {st : Plan} {before after : List ℤ} {a : Answer} → reading ≡ accepted_with st → Answered st before after a → Answers reading before after (at_line 0 a)
 unfolding answer_with cells_with
-accepted_answers {st = st} {before = before} {after = after} {a = a} same e w g =
-    let q : PlanAnswered (plan_of st) before after a = rw same at w in
-    rw e (record { answer = g ∙ ap (at_line 0) q.by.answer; cells = q.by.cells; allowed = q.allowed })
+accepted_answers e w = rw e (record { answer = ap (at_line 0) w.by.answer; cells = w.by.cells; allowed = w.allowed })
+
+-- an answer with its line, as `map_err` gives it
+pub line_mapped : (a : Answer) {r : TextAnswer} → MatchResult a (λ b. r ≡ Ok b) (λ f. r ≡ refused_line f 0) → r ≡ at_line 0 a
+line_mapped (Ok b) e = e
+line_mapped (Err f) e = e
 
 -- the whole text's
 pub text_answered : (text : List ℕ) {reading : Reading} {before after : List ℤ} {r : TextAnswer} → read_text ours text ≡ reading → Answers reading before after r → TextAnswered text before after r
@@ -49,17 +48,26 @@ text_answered text {before = before} {after = after} {r = r} e q =
 
 -- ---- 01's numbers
 
-pub text_numbered : (text : List ℕ) {r : Reading} → r ≡ read_text ours text → (r ≡ read_text ours text) × (check_number r.check ≡ text_number text)
+pub reading_check : (r : Result Plan Fault) → check_at r ≡ (reading_of r).check
+unfolding check_at reading_of
+reading_check (Ok st) = refl
+reading_check (Err f) = refl
+
+pub text_numbered : (text : List ℕ) (r : Result Plan Fault) → reading_of r ≡ read_text ours text → check_number (check_at r) ≡ text_number text
 unfolding text_number
-text_numbered text e = (e, rw e)
+text_numbered text r e = ap check_number (reading_check r ∙ ap (λ (x : Reading). x.check) e)
 
-answer_numbered : (c : Check) (line : ℕ) (plan : Plan) (n : ℕ) → check_number (answer_with c line plan n).check ≡ cond (is_accepted c) (levels_number plan n) (check_number c)
-unfolding answer_with is_accepted
-answer_numbered Accepted line plan n = plan_number plan n _ _
-answer_numbered (Refused f) line plan n = refl
+answer_numbered : (c : Check) (line : ℕ) (plan : Plan) (n : ℕ) → check_number (check_at (answer_with c line plan n)) ≡ cond (is_ok c) (levels_number plan n) (check_number c)
+unfolding answer_with check_at check_of
+answer_numbered (Ok _) line plan n = ap check_number (at_any (answer_of (levels_check plan n) (result_by Day plan (own_marks plan)) (result_by Night plan (own_marks plan)))) ∙ plan_number plan n _ _
+  where
+    at_any : (a : Answer) → check_at (at_line line a) ≡ check_of a
+    at_any (Ok b) = refl
+    at_any (Err f) = refl
+answer_numbered (Err f) line plan n = refl
 
-pub answer_number : (text : List ℕ) {before after : List ℤ} {r : TextAnswer} → TextAnswered text before after r → TextAnswered text before after r × (check_number r.check ≡ text_answer_number text (length before))
+pub answer_number : (text : List ℕ) {before after : List ℤ} {r : TextAnswer} → TextAnswered text before after r → check_number (check_at r) ≡ text_answer_number text (length before)
 unfolding text_answer text_answer_number text_number
 answer_number text {before = before} a =
     let x = read_text ours text in
-    (a, ap (λ (r : TextAnswer). check_number r.check) a.answer ∙ answer_numbered x.check x.line (plan_of x.study) (length before))
+    ap (λ (r : TextAnswer). check_number (check_at r)) a.answer ∙ answer_numbered x.check x.line x.study (length before)

@@ -1,25 +1,24 @@
 -- The additions that a text's lines are, in order (01, "Contracts and evidence": the reading of a text "counts as the list of its segments and entries").
 -- Assumes nothing.
-use Rattle.std.specs.Prelude.{ℕ, List, [], ◌∷◌, ◌++◌}
+use Rattle.std.specs.Prelude.{ℕ, List, [], ◌∷◌, ◌++◌, Option, None, Some, Result, Ok, Err}
+use Rattle.figures.specs.declared.Segment.{Segment}
+use Rattle.figures.specs.declared.Train.{Train}
+use Rattle.figures.specs.declared.Refusal.{Refusal}
 use Rattle.study.specs.Add.{Limits}
 use Rattle.study.specs.Run.{Addition}
 use Rattle.study.specs.Run as Run
 use Rattle.lines.specs.Lines.{segment_of, train_of}
-use Rattle.lines.specs.Contents.{Read, refused, counts, contents_of}
+use Rattle.lines.specs.Contents.{contents_of}
 use Rattle.text.specs.Text.{Line, ended, unended, lines_of, Kind, segment_kind, train_kind, kinds_of}
-use Rattle.lines.specs.declared.fields.SegmentLine.{SegmentLine}
-use Rattle.lines.specs.declared.fields.SegmentLine.TheVariants as S
-use Rattle.lines.specs.declared.fields.TrainLine.{TrainLine}
-use Rattle.lines.specs.declared.fields.TrainLine.TheVariants as T
 
 -- one addition, or none for a line that is malformed
-abbrev pub segment_addition : SegmentLine → List Addition
-segment_addition S.Malformed = []
-segment_addition (S.Fields s) = Run.segment s ∷ []
+abbrev pub segment_addition : Option Segment → List Addition
+segment_addition None = []
+segment_addition (Some s) = Run.segment s ∷ []
 
-abbrev pub train_addition : TrainLine → List Addition
-train_addition T.Malformed = []
-train_addition (T.Fields t) = Run.train t ∷ []
+abbrev pub train_addition : Option Train → List Addition
+train_addition None = []
+train_addition (Some t) = Run.train t ∷ []
 
 unfoldable pub line_additions : Kind → Line → List Addition
 line_additions kind unended = []
@@ -32,9 +31,9 @@ lines_additions (p ∷ ps) [] = []
 lines_additions (p ∷ ps) (x ∷ xs) = line_additions p x ++ lines_additions ps xs
 
 -- those after the contents
-abbrev pub body_additions : Read → List Line → List Addition
-body_additions (refused r) xs = []
-body_additions (counts cs) xs = lines_additions (kinds_of cs) xs
+abbrev pub body_additions : Result (List ℕ) Refusal → List Line → List Addition
+body_additions (Err r) xs = []
+body_additions (Ok cs) xs = lines_additions (kinds_of cs) xs
 
 abbrev pub additions_in : Limits → List Line → List Addition
 additions_in l [] = []

@@ -1,22 +1,16 @@
 -- The reading of a text (01, "The text"): its lines, the kinds of line that the contents announce, and what comes out.
 -- Assumes nothing.
-use Rattle.std.specs.Prelude.{ℕ, zero, suc, ◌+◌, List, [], ◌∷◌, cond, length, leb}
+use Rattle.std.specs.Prelude.{ℕ, zero, suc, ◌+◌, List, [], ◌∷◌, Option, None, Some, Result, Ok, Err, cond, length, leb}
+use Rattle.figures.specs.declared.Segment.{Segment}
+use Rattle.figures.specs.declared.Train.{Train}
 use Rattle.figures.specs.declared.Refusal.{Refusal}
 use Rattle.figures.specs.declared.Refusal.TheVariants.{Form, Contents}
-use Rattle.figures.specs.declared.Check.{Check}
-use Rattle.figures.specs.declared.Check.TheVariants.{Accepted, Refused}
-use Rattle.study.specs.declared.Study.{Study}
-use Rattle.study.specs.declared.Added.{Added}
-use Rattle.study.specs.Plan.{empty_study}
-use Rattle.study.specs.Add.{Limits, add_segment, add_train}
+use Rattle.study.specs.Plan.{Plan, empty_plan}
+use Rattle.study.specs.Add.{Limits, Added, add_segment, add_train}
 use Rattle.lines.specs.Bytes.{split}
 use Rattle.lines.specs.Lines.{segment_of, train_of}
-use Rattle.lines.specs.Contents.{Read, refused, counts, contents_of}
-use Rattle.lines.specs.declared.fields.SegmentLine.{SegmentLine}
-use Rattle.lines.specs.declared.fields.SegmentLine.TheVariants as S
-use Rattle.lines.specs.declared.fields.TrainLine.{TrainLine}
-use Rattle.lines.specs.declared.fields.TrainLine.TheVariants as T
-use Rattle.text.specs.declared.Reading.{Reading}
+use Rattle.lines.specs.Contents.{contents_of}
+use Rattle.figures.specs.Refusal.{Check}
 
 -- "a line feed after each line": a line that one ends, without it; or bytes at the end of the text that none ends
 pub data Line : Type 0 where
@@ -52,47 +46,53 @@ kinds_of [] = []
 kinds_of (c ∷ cs) = segment_kind ∷ trains c (kinds_of cs)
 
 -- what a line adds to a study. "Within a line 12 precedes all else": all its numbers are read before the addition judges any
-abbrev pub refused_addition : Study → Refusal → Added
-refused_addition st r = record { check = Refused r; study = st }
+abbrev pub refused_addition : Plan → Refusal → Added
+refused_addition st r = record { check = Err r; study = st }
 
-abbrev pub segment_adds : Limits → Study → SegmentLine → Added
-segment_adds l st S.Malformed = refused_addition st Form
-segment_adds l st (S.Fields s) = add_segment l st s
+abbrev pub segment_adds : Limits → Plan → Option Segment → Added
+segment_adds l st None = refused_addition st Form
+segment_adds l st (Some s) = add_segment l st s
 
-abbrev pub train_adds : Limits → Study → TrainLine → Added
-train_adds l st T.Malformed = refused_addition st Form
-train_adds l st (T.Fields t) = add_train l st t
+abbrev pub train_adds : Limits → Plan → Option Train → Added
+train_adds l st None = refused_addition st Form
+train_adds l st (Some t) = add_train l st t
 
 -- "bytes at the end without a line feed are a line of wrong form", whatever they are
-unfoldable pub add_line : Limits → Kind → Study → Line → Added
+unfoldable pub add_line : Limits → Kind → Plan → Line → Added
 add_line l kind st unended = refused_addition st Form
 add_line l segment_kind st (ended line) = segment_adds l st (segment_of line)
 add_line l train_kind st (ended line) = train_adds l st (train_of line)
 
+-- what a reading gives: accepted at line 0 with its study, or the refusal, the line at fault and the empty study
+pub record Reading : Type 0 where
+  pub check : Check
+  pub line : ℕ
+  pub study : Plan
+
 -- the study of all the lines' additions
-abbrev pub accepted_with : Study → Reading
-accepted_with st = record { check = Accepted; line = 0; study = st }
+abbrev pub accepted_with : Plan → Reading
+accepted_with st = record { check = Ok tt; line = 0; study = st }
 
 -- "a refused text gives the empty study"
 abbrev pub refused_at : Refusal → ℕ → Reading
-refused_at r line = record { check = Refused r; line = line; study = empty_study }
+refused_at r line = record { check = Err r; line = line; study = empty_plan }
 
 -- "The first line at fault, counted from 1, ends the reading": what follows counts only after an accepted line
 abbrev pub after : Check → ℕ → Reading → Reading
-after Accepted line rest = rest
-after (Refused r) line rest = refused_at r line
+after (Ok _) line rest = rest
+after (Err r) line rest = refused_at r line
 
 -- the lines from number k on, with the study so far: "a missing line or an extra one is 13, at that line", with any bytes in it
-unfoldable pub read_lines : Limits → Study → ℕ → List Kind → List Line → Reading
+unfoldable pub read_lines : Limits → Plan → ℕ → List Kind → List Line → Reading
 read_lines l st k [] [] = accepted_with st
 read_lines l st k [] (x ∷ xs) = refused_at Contents k
 read_lines l st k (p ∷ ps) [] = refused_at Contents k
 read_lines l st k (p ∷ ps) (x ∷ xs) = after (add_line l p st x).check k (read_lines l (add_line l p st x).study (k + 1) ps xs)
 
 -- "Reading begins with an empty study"; the contents are line 1
-abbrev pub read_body : Limits → Read → List Line → Reading
-read_body l (refused r) xs = refused_at r 1
-read_body l (counts cs) xs = read_lines l empty_study 2 (kinds_of cs) xs
+abbrev pub read_body : Limits → Result (List ℕ) Refusal → List Line → Reading
+read_body l (Err r) xs = refused_at r 1
+read_body l (Ok cs) xs = read_lines l empty_plan 2 (kinds_of cs) xs
 
 -- "The empty text is 13 at line 1"
 abbrev pub read_from : Limits → List Line → Reading

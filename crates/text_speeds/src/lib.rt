@@ -3,81 +3,42 @@
 
 ghost use Rattle.std.specs.Prelude.{◌≡◌};
 ghost use Rattle.figures.specs.Refusal.{check_number};
-ghost use Rattle.emission.specs.Emission.{emission_of};
-ghost use Rattle.text_speeds.specs.TextSpeeds.{speed_at_line, text_speed_number, TextSpeedAnswered};
+ghost use Rattle.text.specs.Answer.{check_at};
+ghost use Rattle.text_speeds.specs.TextSpeeds.{text_speed_number, TextSpeedAnswered};
 ghost use Rattle.text_speeds.specs.Private.{TrainIn, Emitted, Regained};
 
 use decibel::Level;
 use emission::emissions_of;
-use figures::{Check, Period, Refusal, Train};
-use lines::fields::{TrainLine, train_of};
-use lines::line_at;
+use figures::{Period, Refusal, Train};
+use lines::fields::train_of;
+use lines::split_line;
 use request::{MOST_CELLS, first_cell};
-use speeds::{SpeedAnswer, highest_speed_from, refused_speed};
-use study::no_train;
-use text::text_levels;
+use speeds::highest_speed_from;
+use text::{Fault, text_levels};
 
-// What a text gives: the highest speed in km/h at line 0, or a refusal with speed 0, and with a text's own the line at fault.
-#[derive(Clone, Copy)]
-pub struct TextSpeed {
-    pub check: Check,
-    pub line: usize,
-    pub speed: u32,
-}
-
-// How many train lines an accepted text has, and the train of one of them, counted from 0; that of an empty place where there is none.
-#[derive(Clone, Copy)]
-struct Trains {
-    total: usize,
-    train: Train,
-}
-
-// Each line after the first that reads as a train is one: no segment's line does, for it has more numbers.
-fn train_in(text: &[u8], place: usize) -> Trains
+// How many train lines an accepted text has, and the train of one of them, counted from 0. Each line after the first that reads as a
+// train is one: no segment's line does, for it has more numbers.
+#[tactic(auto, using(text::proofs::Places::past_shorter, crate::proofs::Passed::passed_torn, crate::proofs::Passed::passed_first, crate::proofs::Passed::passed_other, crate::proofs::Passed::passed_asked, crate::proofs::Passed::passed_train))]
+fn train_in(text: &[u8], place: usize) -> (usize, Option<Train>)
     ensures { TrainIn text.now place result }
 {
     let mut total: usize = 0;
-    let mut train = no_train();
-    let first = line_at(text, 0);
-    let mut at = first.len() + 1;
-    loop {
-        let line = line_at(text, at);
-        let end = at + line.len();
-        // No line feed ends it, or none is left: an accepted text has no more lines.
-        if text.len() <= end {
-            return Trains { total, train };
-        }
-        at = end + 1;
-        if let TrainLine::Fields(read) = train_of(line) {
+    let mut train = None;
+    let Some((_, mut rest)) = split_line(text) else {
+        return (total, train);
+    };
+    // Where no line feed ends it, or none is left, an accepted text has no more lines. One walk tells both: a chain over std's `split`
+    // would read the lines twice, for how many there are and for the one.
+    while let Some((line, next)) = split_line(rest) {
+        if let Some(read) = train_of(line) {
             if total == place {
-                train = read;
+                train = Some(read);
             }
             total += 1;
         }
+        rest = next;
     }
-}
-
-// An answer with the line of the text that it concerns.
-fn at_line(answer: SpeedAnswer, line: usize) -> TextSpeed
-    ensures { result ≡ speed_at_line line answer }
-{
-    let check = answer.check;
-    TextSpeed {
-        check,
-        line,
-        speed: answer.speed,
-    }
-}
-
-// What a train emits in a period.
-fn emission_in(train: Train, period: Period) -> Level
-    ensures { result ≡ emission_of period train }
-{
-    let emissions = emissions_of(train);
-    match period {
-        Period::Day => emissions.day,
-        Period::Night => emissions.night,
-    }
+    (total, train)
 }
 
 // What the segment adds to the level of an entry, from that level and its train: the rest of it. Where the entry is silent nothing is
@@ -86,38 +47,35 @@ fn added_to(cell: i32, train: Train, period: Period) -> i16
     requires { Emitted period train cell }
     ensures { Regained period train cell result }
 {
-    match emission_in(train, period) {
+    match emissions_of(train).of(period) {
         Level::Silent => 0,
         Level::Figure(tenths) => (cell - tenths) as i16,
     }
 }
 
 // The highest speed from 20 to 300 km/h of an entry, counted from 1 over all segments, at which the period's total stays below the limit.
-pub fn text_speed(text: &[u8], entry: usize, period: Period, limit: i32) -> TextSpeed
+pub fn text_speed(text: &[u8], entry: usize, period: Period, limit: i32) -> Result<u32, Fault>
     ensures answered { TextSpeedAnswered text.now entry period limit result }
-    ensures number { check_number result.check ≡ text_speed_number text.now entry period limit }
+    ensures number { check_number (check_at result) ≡ text_speed_number text.now entry period limit }
 {
     let mut cells = [0i32; MOST_CELLS];
-    let answer = text_levels(text, &mut cells);
-    let checked = answer.check;
-    if let Check::Refused(refusal) = checked {
-        return at_line(refused_speed(refusal), answer.line);
-    }
+    let _ = text_levels(text, &mut cells)?;
+    // of an accepted text, so at no line
+    let outside = Fault {
+        refusal: Refusal::EntryNumber,
+        line: 0,
+    };
     if entry == 0 {
-        return at_line(refused_speed(Refusal::EntryNumber), 0);
+        return Err(outside);
     }
-    let found = train_in(text, entry - 1);
-    let total = found.total;
-    if total < entry {
-        return at_line(refused_speed(Refusal::EntryNumber), 0);
-    }
-    let train = found.train;
+    let (total, Some(train)) = train_in(text, entry - 1) else {
+        return Err(outside);
+    };
     let from = first_cell(period, total);
-    let cell = cells[from + (entry - 1)];
-    let tenths = added_to(cell, train, period);
-    let end = from + total;
-    at_line(
-        highest_speed_from(&cells[from..end], entry, tenths, train, period, limit),
-        0,
-    )
+    let own = &cells[from..from + total];
+    let tenths = added_to(own[entry - 1], train, period);
+    highest_speed_from(own, entry, tenths, train, period, limit).map_err(|refusal| Fault {
+        refusal,
+        line: 0,
+    })
 }

@@ -1,22 +1,17 @@
--- How long what is said of a refusal is at most, and that it stands whole in an array with room for it.
+-- How long what is said of a refusal is at most, and that its parts are written so.
 -- Assumes nothing.
 use mathlib.Core.Path.{◌≡◌, refl}
-use mathlib.Core.List.{List, [], ◌∷◌, append-nil, flatten}
+use mathlib.Core.List.{List, ◌++◌, append-nil, flatten}
 use Prim.Native.Nat.{ℕ, ◌<◌, ◌≤◌, ◌^◌}
 use native.Mathlib.Omega.{arith}
 use lib.ListN.{length, length-append}
+use Rattle.std.specs.Fmt.{decimal}
 use Rattle.figures.specs.declared.Refusal.{Refusal}
 use Rattle.figures.specs.declared.Refusal.TheVariants.{Distance, Height, Ground, Angle, Screen, Shadow, Reading, Row, Speed, Vehicles, Trains, Form, Contents, NoSegment, SegmentLimit, EntryLimit, NoEntry, FewCells, EntryNumber, NoSpeed}
 use Rattle.figures.specs.Refusal.{number_of}
 use Rattle.writing.specs.Bytes.{ascii, digits_of}
-use Rattle.writing.specs.Pages.{Put, PutEach}
-use Rattle.writing.proofs.Digits.{digits_length}
-use Rattle.writing.proofs.Pages.{AtFront, at_front}
+use Rattle.writing.proofs.Digits.{digits_length, decimal_is}
 use Rattle.words.specs.Words.{words_of, refused_of, notice_of}
-
--- the words of the refusal that is at hand
-pub put_as : {refusal v : Refusal} {before after : List ℕ} {at next : ℕ} → refusal ≡ v → Put before at (words_of v) after next → Put before at (words_of refusal) after next
-put_as e p = rw e p
 
 -- no refusal is above two digits, and none is told at length
 record Short (r : Refusal) : Type 0 where
@@ -51,22 +46,22 @@ unfolding refused_of flatten
 refused_length r line h =
     simp (length-append, append-nil) (omega (arith, digits_length 1 (number_of r) (omega (arith, (short r).number)), digits_length 19 line (omega arith)))
 
-pub refused_front : (r : Refusal) (line : ℕ) {before after : List ℕ} {count : ℕ}
-    → line < 2 ^ 64
-    → length before ≡ 36
-    → PutEach before 0 (ascii "refused " ∷ digits_of (number_of r) ∷ ascii " line " ∷ digits_of line ∷ []) after count
-    → AtFront (refused_of r line) after count
-unfolding refused_of
-refused_front r line h l p = at_front p refl (omega (arith, refused_length r line h))
-
 pub notice_length : (r : Refusal) (line : ℕ) → line < 2 ^ 64 → length (notice_of r line) ≤ 450
 unfolding notice_of flatten
 notice_length r line h = simp (length-append, append-nil) (omega (arith, refused_length r line h, (short r).words))
 
-pub notice_front : (r : Refusal) (line : ℕ) {before after : List ℕ} {count : ℕ}
+-- ---- as their parts are written
+
+pub refused_is : (r : Refusal) (line : ℕ) {number : ℕ}
     → line < 2 ^ 64
-    → length before ≡ 450
-    → PutEach before 0 (ascii "railnoise: " ∷ refused_of r line ∷ ascii ": " ∷ words_of r ∷ ascii "\n" ∷ []) after count
-    → AtFront (notice_of r line) after count
-unfolding notice_of
-notice_front r line h l p = at_front p refl (omega (arith, notice_length r line h))
+    → number ≡ number_of r
+    → ascii "refused " ++ (decimal number ++ (ascii " line " ++ decimal line)) ≡ refused_of r line
+unfolding refused_of flatten
+refused_is r line h e =
+    rw (e, decimal_is (number_of r) (omega (arith, (short r).number)), decimal_is line h, append-nil (digits_of line)) refl
+
+pub notice_is : (r : Refusal) (line : ℕ) {words : List ℕ}
+    → words ≡ words_of r
+    → ascii "railnoise: " ++ (refused_of r line ++ (ascii ": " ++ (words ++ ascii "\n"))) ≡ notice_of r line
+unfolding notice_of flatten
+notice_is r line e = rw e refl

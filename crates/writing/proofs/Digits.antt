@@ -1,16 +1,16 @@
--- Laws of a number in decimal: its last digit and those before it, how many there are, and how they are filled in from the last.
+-- Laws of a number in decimal: its last digit and those before it, how many there are, and that they are what std writes.
 -- Assumes nothing.
-use mathlib.Core.Path.{◌≡◌, refl, ◌∙◌}
+use mathlib.Core.Path.{◌≡◌, refl, sym, ◌∙◌}
 use mathlib.Core.Bool.{Bool, true, false}
-use mathlib.Core.List.{List, [], ◌∷◌, ◌++◌, append_assoc, append-nil}
-use Prim.Native.Nat.{ℕ, zero, suc, ◌+◌, ◌-◌, ◌/◌, ◌%◌, ◌^◌, ◌<◌, ◌≤◌}
+use mathlib.Core.List.{List, [], ◌∷◌, ◌++◌}
+use Prim.Native.Nat.{ℕ, zero, suc, ◌+◌, ◌/◌, ◌%◌, ◌^◌, ◌<◌, ◌≤◌}
 use native.Mathlib.Nat.{pow-succ'}
-use native.Mathlib.Numerals.{add-one}
 use native.Mathlib.Omega.{arith}
 use borrow.Author.Tests.{lt-ltb, le-ltb, ltb-true, ltb-false}
 use lib.Dec.{ltb}
-use lib.ListN.{length, take, drop, set, length-append, length-set, drop_of_length-le}
-use lib.Seq.{length-take-le, set_split, drop_at}
+use lib.ListN.{length, length-append}
+use Rattle.std.specs.Fmt.{decimal}
+use Rattle.std.proofs.lemmas.Fmt.{AppendsLastDigit, decimal_from_appends, length-decimal-le_succ}
 use Rattle.writing.specs.Bytes.{last_digit, digits_within, digits_of}
 
 last_alone : (n : ℕ) (before : List ℕ) → n < 10 → last_digit n before ≡ (48 + n) ∷ []
@@ -58,39 +58,18 @@ digits_length zero n h = within (ltb n 10) zero n refl (λ big. absurd (omega ar
 digits_length (suc k) n h =
     within (ltb n 10) (suc k) n refl (λ big. digits_length k (n / 10) (omega (arith, pow-succ' 10 (suc k))))
 
--- ---- filled in from the last
+-- ---- what std writes
 
-from_set : (xs : List ℕ) (i x : ℕ) → i < length xs → drop i (set xs i x) ≡ x ∷ drop (i + 1) xs
-from_set xs i x h =
-    rw (set_split xs i x h, drop_at (take i xs) (x ∷ drop (suc i) xs) i (length-take-le i xs (omega arith)), add-one i)
-
--- room for the digits of `rest` up to index i, and after them the others of n
-pub record Filling (n rest i : ℕ) (digits : List ℕ) : Type 0 where
-  pub inside : i < length digits
-  pub room : length (digits_of rest) ≤ i + 1
-  pub others : digits_of rest ++ drop (i + 1) digits ≡ digits_of n
-
-pub filling_begins : (n : ℕ) (digits : List ℕ) → length digits ≡ 20 → n < 2 ^ 64 → Filling n n 19 digits
-filling_begins n digits l h =
-    let low : length digits ≤ 20 = omega arith in
-    let past : drop 20 digits ≡ [] = drop_of_length-le digits low in
-    record { inside = omega arith; room = digits_length 19 n (omega arith); others = rw (past, append-nil) refl }
-
--- a number of two digits or more does not take the last place
-pub filling_room : {n rest i : ℕ} {digits : List ℕ} → Filling n rest i digits → 9 < rest → 1 ≤ i
-filling_room {rest = rest} f h = omega (arith, simp length-append at (rw (digits_large rest (omega arith)) at f.room), one_digit (rest / 10))
-
-pub filling_goes_on : {n rest i : ℕ} {digits : List ℕ}
-    → Filling n rest i digits
-    → 9 < rest
-    → Filling n (rest / 10) (i - 1) (set digits i (48 + rest % 10))
-filling_goes_on {n} {rest} {i} {digits} f h =
-    let e : i - 1 + 1 ≡ i = omega (arith, filling_room f h) in
+appends : AppendsLastDigit digits_within
+unfolding digits_within
+appends =
     record {
-      inside = simp length-set (omega (arith, f.inside));
-      room = omega (arith, simp length-append at (rw (digits_large rest (omega arith)) at f.room));
-      others = rw (e, from_set digits i (48 + rest % 10) f.inside) (rw (digits_large rest (omega arith), append_assoc (digits_of (rest / 10)) ((48 + rest % 10) ∷ []) (drop (i + 1) digits)) at f.others);
+      one = λ k n h. last_alone n (digits_within k (n / 10)) h;
+      more = λ k n h. last_after n (digits_within k (n / 10)) h;
     }
 
-pub filled : {n rest i : ℕ} {digits : List ℕ} → Filling n rest i digits → rest ≤ 9 → drop i (set digits i (48 + rest)) ≡ digits_of n
-filled {n} {rest} {i} {digits} f h = rw (from_set digits i (48 + rest) f.inside) (rw (digits_small rest (omega arith)) at f.others)
+pub decimal_is : (n : ℕ) → n < 2 ^ 64 → decimal n ≡ digits_of n
+unfolding digits_of
+decimal_is n h =
+    let short : length (decimal n) ≤ suc n = omega (arith, length-decimal-le_succ n h) in
+    sym (decimal_from_appends digits_within appends (suc n) n h short)

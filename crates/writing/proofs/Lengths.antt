@@ -1,17 +1,17 @@
--- How long numbers are at most, and that they stand whole in an array with room for them.
+-- How long numbers are at most.
 -- Assumes nothing.
-use mathlib.Core.Path.{◌≡◌}
-use mathlib.Core.List.{List, [], ◌∷◌, append-nil, flatten}
+use mathlib.Core.Path.{◌≡◌, refl}
+use mathlib.Core.List.{List, ◌++◌}
 use Prim.Native.Nat.{ℕ, ◌/◌, ◌%◌, ◌≤◌}
 use native.Mathlib.Omega.{arith}
 use lib.IntN.{ℤ, pos, negsuc, nat_abs}
 use lib.ListN.{length, length-append}
 use mir.Syntax.{w32}
-use mir.Val.{SFits}
-use Rattle.writing.specs.Bytes.{ascii, digits_of, sign, signed_of, with_tenths, figure_of}
-use Rattle.writing.specs.Pages.{PutEach}
-use Rattle.writing.proofs.Digits.{digits_length}
-use Rattle.writing.proofs.Pages.{AtFront, at_front}
+use mir.Val.{SFits, to_z, of_z}
+use mir.Facts.{to_z-of_z}
+use Rattle.std.specs.Fmt.{decimal}
+use Rattle.writing.specs.Bytes.{ascii, sign, with_tenths, figure_of}
+use Rattle.writing.proofs.Digits.{digits_length, decimal_is}
 
 sign-length : (z : ℤ) → length (sign z) ≤ 1
 unfolding sign
@@ -22,10 +22,6 @@ size_bound : (z : ℤ) → SFits w32 z → nat_abs z ≤ 2147483648
 size_bound (pos n) f = omega (arith, f.sfits)
 size_bound (negsuc n) f = omega (arith, f.sfits)
 
-pub signed_length : (z : ℤ) → SFits w32 z → length (signed_of z) ≤ 11
-unfolding signed_of
-signed_length z f = simp length-append (omega (arith, sign-length z, size_bound z f, digits_length 9 (nat_abs z) (omega (arith, size_bound z f))))
-
 tenths_length : (n : ℕ) → n ≤ 2147483648 → length (with_tenths n) ≤ 11
 unfolding with_tenths
 tenths_length n h = simp length-append (omega (arith, digits_length 8 (n / 10) (omega arith), digits_length 0 (n % 10) (omega arith)))
@@ -34,24 +30,13 @@ pub figure_length : (z : ℤ) → SFits w32 z → length (figure_of z) ≤ 12
 unfolding figure_of
 figure_length z f = simp length-append (omega (arith, sign-length z, tenths_length (nat_abs z) (size_bound z f)))
 
-abbrev pub signed_parts : ℤ → List (List ℕ)
-signed_parts z = sign z ∷ digits_of (nat_abs z) ∷ []
-
-pub signed_front : (z : ℤ) {before after : List ℕ} {count : ℕ}
+-- a figure, as its parts are written from what is read of it
+pub figure_is : (z : ℤ) {minus : List ℕ} {size : ℕ}
     → SFits w32 z
-    → length before ≡ 11
-    → PutEach before 0 (signed_parts z) after count
-    → AtFront (signed_of z) after count
-unfolding signed_of flatten
-signed_front z f l p = at_front p (simp append-nil) (omega (arith, signed_length z f))
-
-abbrev pub figure_parts : ℤ → List (List ℕ)
-figure_parts z = sign z ∷ digits_of (nat_abs z / 10) ∷ ascii "." ∷ digits_of (nat_abs z % 10) ∷ []
-
-pub figure_front : (z : ℤ) {before after : List ℕ} {count : ℕ}
-    → SFits w32 z
-    → length before ≡ 12
-    → PutEach before 0 (figure_parts z) after count
-    → AtFront (figure_of z) after count
-unfolding figure_of with_tenths flatten
-figure_front z f l p = at_front p (simp append-nil) (omega (arith, figure_length z f))
+    → minus ≡ sign (to_z w32 (of_z w32 z))
+    → size ≡ nat_abs (to_z w32 (of_z w32 z))
+    → minus ++ (decimal (size / 10) ++ (ascii "." ++ decimal (size % 10))) ≡ figure_of z
+unfolding figure_of with_tenths
+figure_is z f m e =
+    let low = size_bound z f in
+    rw (m, e, to_z-of_z f, decimal_is (nat_abs z / 10) (omega (arith, low)), decimal_is (nat_abs z % 10) (omega (arith, low))) refl

@@ -1,40 +1,21 @@
--- What the writers ensure: bytes put at a place of a list, all of them or none, and one part after another.
+-- What a page holds: parts put one after another, each of them whole or not at all.
 -- Assumes nothing.
-use Rattle.std.specs.Prelude.{◌≡◌, Bool, cond, List, [], ◌∷◌, ◌++◌, ℕ, ◌+◌, max, leb, length, take, drop}
+use Rattle.std.specs.Prelude.{◌≡◌, Bool, false, not, ◌&&◌, cond, List, [], ◌++◌, ℕ, ◌+◌, leb, length}
+use Rattle.writing.specs.declared.Page.{Page}
 
--- the bytes that are written to, and the place of the next one
-pub record Page : Type 0 where
-  pub bytes : List ℕ
-  pub place : ℕ
+abbrev pub bytes_on : {N : ℕ} → Page N → List ℕ
+bytes_on p = p.text.bytes
 
-abbrev pub page : List ℕ → ℕ → Page
-page out at = record { bytes = out; place = at }
+-- is there room for all of a part? Once one was left out there is none, so that a page too short ends early and says nothing else
+abbrev pub room : {N : ℕ} → List ℕ → Page N → Bool
+room {N} part p = not p.full && leb (length (bytes_on p) + length part) N
 
--- is there room for so many bytes?
-abbrev pub room : ℕ → Page → Bool
-room n p = leb (p.place + n) (length p.bytes)
+-- what a page holds after a part
+pub record Put {N : ℕ} (before : Page N) (part : List ℕ) (after : Page N) : Type 0 where
+  pub bytes : bytes_on after ≡ bytes_on before ++ cond (room part before) part []
+  pub full : after.full ≡ not (room part before)
 
--- the new bytes at the place, what is before and after them as it was, and the place after them
-abbrev pub placed : List ℕ → Page → Page
-placed new p = page (take p.place p.bytes ++ new ++ drop (p.place + length new) p.bytes) (p.place + length new)
-
--- no byte more has room: what follows a part that did not fit is left out too, so that a page too short ends early and says nothing else
-abbrev pub full : Page → Page
-full p = page p.bytes (max p.place (length p.bytes))
-
--- where there is no room for all of them, the bytes stay and the page is full
-unfoldable pub put_on : List ℕ → Page → Page
-put_on new p = cond (room (length new) p) (placed new p) (full p)
-
--- one part after another
-unfoldable pub put_each : List (List ℕ) → Page → Page
-put_each [] p = p
-put_each (new ∷ rest) p = put_each rest (put_on new p)
-
--- what a writer of some bytes ensures of the list and of the place that it answers
-pub record Put (before : List ℕ) (at : ℕ) (new after : List ℕ) (next : ℕ) : Type 0 where
-  pub written : page after next ≡ put_on new (page before at)
-
--- and a writer of several parts
-pub record PutEach (before : List ℕ) (at : ℕ) (parts : List (List ℕ)) (after : List ℕ) (next : ℕ) : Type 0 where
-  pub written : page after next ≡ put_each parts (page before at)
+-- a page that nothing was put on yet
+pub record Blank {N : ℕ} (p : Page N) : Type 0 where
+  pub bytes : bytes_on p ≡ []
+  pub unfilled : p.full ≡ false

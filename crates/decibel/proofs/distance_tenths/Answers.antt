@@ -1,24 +1,12 @@
--- `decibel::distance_tenths` meets its contract, by the one law of all tables.
-use mir.Syntax.{w32}
-use mathlib.Core.Path.{◌∙◌}
-use Prim.Native.Nat.{◌-◌}
-use native.Mathlib.Omega.{arith}
+-- `decibel::distance_tenths` meets its contract.
 use lib.Dec.{lit<, lit≤}
-use mir.Facts.{to_z-of_z}
-use Rattle.decibel.specs.Lookup.{distance, lowest, highest}
 use Rattle.decibel.proofs.Rules.{distance_rule}
-use Rattle.decibel.proofs.Walk.{clamped_sought}
-use Rattle.decibel.proofs.Lookup.{distance_decides, looked_up}
+use Rattle.decibel.proofs.Walk.{spans}
+use Rattle.decibel.proofs.Lookup.{distance_read}
 use Rattle.decibel.proofs.distance_tenths.Goals as goal
 
-pub place-requires : goal.place-requires
-place-requires c = clamped_sought distance_rule.fits (lit< tt) (lit< tt) (lit≤ tt) _ c.clamp-x.ensures (omega arith)
-
-pub overflow_sub-place : goal.overflow_sub-place
-overflow_sub-place c = omega (arith, c.place.ensures.inside, distance_rule.fits.size)
+pub place_within-requires : goal.place_within-requires
+place_within-requires c = spans distance_rule.fits (lit< tt) (lit< tt) (lit≤ tt)
 
 pub returns : goal.returns
-unfolding lowest highest
-returns c =
-    let p = c.place.ensures in
-    looked_up distance _ _ (240 - c.place.result) 200 _ c.clamp-x.ensures (distance_decides p) (omega (arith, p.inside, distance_rule.fits.size)) (lit< tt) (to_z-of_z {w = w32} (record { sfits = c.minus.type_inv }) ∙ c.minus.ensures)
+returns c = distance_read _ c.place_within.ensures

@@ -1,16 +1,16 @@
 -- `drawings::sizes_of` meets its contract.
-use mathlib.Core.Path.{refl}
-use Rattle.drawings.proofs.FirstLine.{refused_sizes, counts_most, counted_sizes}
+use Rattle.drawings.proofs.FirstLine.{torn_sizes, refused_sizes, counts_most, counted_sizes}
 use Rattle.drawings.proofs.sizes_of.Goals as goal
 
+pub returns-in_err-line : goal.returns-in_err-line
+returns-in_err-line c = rw c.from_residual.ensures (torn_sizes c.args.text.now c.in_err-line.ensures)
+
+pub returns-in_default : goal.returns-in_default
+returns-in_default c = refused_sizes c.args.text.now c.in_ok-line.ensures.0 _ c.contents_of.ensures c.in_default.is
+
 pub sum_of-requires : goal.sum_of-requires
-sum_of-requires c =
-    counts_most c.args.text.now c.line_at-line.ensures refl c.contents_of.ensures c.in-Counts.is
+sum_of-requires c = counts_most c.args.text.now c.in_ok-line.ensures.0 _ c.contents_of.ensures c.in-Ok.is c.as_slice.ensures.value
 
-pub returns-in-Refused : goal.returns-in-Refused
-returns-in-Refused c =
-    refused_sizes c.args.text.now c.line_at-line.ensures refl c.contents_of.ensures c.in-Refused.is
-
-pub returns-in-Counts : goal.returns-in-Counts
-returns-in-Counts c =
-    counted_sizes c.args.text.now c.line_at-line.ensures refl c.contents_of.ensures c.in-Counts.is c.sum_of.ensures
+pub returns : goal.returns
+returns c =
+    counted_sizes c.args.text.now c.in_ok-line.ensures.0 _ c.contents_of.ensures c.in-Ok.is c.as_slice.ensures.value c.len.ensures.value c.sum_of.ensures

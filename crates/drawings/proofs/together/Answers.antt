@@ -1,13 +1,16 @@
 -- `drawings::together` meets its contract.
-use native.Mathlib.Omega.{arith}
-use Prim.Native.Nat.{◌+◌, ◌-◌}
-use Rattle.drawings.proofs.Periods.{day_length, both_periods}
+use Rattle.std.proofs.lemmas.Result.{err_from_is_err_and}
+use Rattle.drawings.proofs.Periods.{together_refused, together_few, both_periods}
 use Rattle.drawings.proofs.together.Goals as goal
+
+pub returns-in_err-limits_check : goal.returns-in_err-limits_check
+returns-in_err-limits_check c =
+    let p = err_from_is_err_and c.from_residual.result c.from_residual.ensures.1 in
+    rw (p.1, p.2) (together_refused _ _ _ c.limits_check.ensures.is c.in_err-limits_check.was)
+
+pub returns-then-cells-entries : goal.returns-then-cells-entries
+returns-then-cells-entries c = together_few _ _ _ c.limits_check.ensures.is c.in_ok-limits_check.was c.if-cells-entries.true
 
 pub returns : goal.returns
 returns c =
-    let a = c.args in
-    let n = a.one.entries in
-    let m = a.two.entries in
-    both_periods a.one a.two a.own.now a.others.now (n + n - n) (m + m - m) (n + m) (omega arith) (omega arith) (day_length a.one a.two a.own.now a.others.now c.requires.first c.requires.second)
-    c.period_in-day.ensures c.period_in-night.ensures
+    both_periods _ _ _ c.limits_check.ensures.is c.in_ok-limits_check.was c.if-cells-entries.false c.period_in.ensures c.period_in-2.ensures

@@ -1,35 +1,18 @@
 -- `energy::loudest` meets its contract.
-use mathlib.Core.Path.{◌≡◌, ◌∙◌, ap}
-use Prim.Native.Nat.{◌-◌}
-use native.Mathlib.Omega.{arith}
-use lib.IntN.{pos}
-use lib.ListN.{get_or}
-use mir.Syntax.{w32}
-use mir.Val.{to_z, of_z}
-use borrow.Author.Rules.{rules}
-use Rattle.decibel.proofs.Words.{back}
+use mathlib.Core.Path.{◌∙◌, ap}
+use Rattle.std.proofs.Common.{rules}
+use Rattle.std.proofs.lemmas.Iterator.{YieldsList-from_slice}
+use Rattle.std.proofs.lemmas.Iterator.Consumers.{fold_from_yields_List}
+use Rattle.std.specs.Int.{int_max}
+use Rattle.energy.specs.Total.{silent_cell}
 use Rattle.energy.specs.Private.{height_at}
-use Rattle.energy.proofs.Order.{less, not_less}
-use Rattle.energy.proofs.Cells.{loudest_start, loudest_replaced, loudest_stays}
+use Rattle.decibel.proofs.Words.{back}
+use Rattle.energy.proofs.Cells.{loudest_is}
 use Rattle.energy.proofs.loudest.Goals as goal
 
-pub loop-i-init : goal.loop-i-init
-loop-i-init c = (omega arith, loudest_start c.args.cells.now)
-
-pub loop-i-preserved-then-largest-cell : goal.loop-i-preserved-then-largest-cell
-loop-i-preserved-then-largest-cell c =
+pub returns : goal.returns
+returns c =
     let cells = c.args.cells.now in
-    let l = c.loop-i in
-    let largest = to_z w32 l.largest-bits in
-    let cell = get_or cells (l.i - 1) (pos 0) in
-    let b : to_z w32 (of_z w32 cell) ≡ cell = back cell (search rules) in
-    (omega arith, ap height_at b ∙ loudest_replaced cells l.i (omega arith) l.invariant.0 largest l.invariant.1 (less largest cell (rw b at c.if-largest-cell.true)))
-
-pub loop-i-preserved : goal.loop-i-preserved
-loop-i-preserved c =
-    let cells = c.args.cells.now in
-    let l = c.loop-i in
-    let largest = to_z w32 l.largest-bits in
-    let cell = get_or cells (l.i - 1) (pos 0) in
-    let b : to_z w32 (of_z w32 cell) ≡ cell = back cell (search rules) in
-    (omega arith, loudest_stays cells l.i (omega arith) l.invariant.0 largest l.invariant.1 (not_less largest cell (rw b at c.if-largest-cell.false)))
+    let largest = fold_from_yields_List _ int_max silent_cell c.fold.result c.fold.ensures.ran (YieldsList-from_slice cells (cc)) (λ a x b q k. search rules) in
+    let h = c.height.ensures in
+    record { is = loudest_is cells (h.is ∙ ap height_at (back c.fold.result c.fold.type_inv ∙ largest)); most = h.most }

@@ -1,13 +1,11 @@
 -- `propagation::propagation_of` meets its contract.
-use mathlib.Core.Path.{ap}
-use Rattle.propagation.specs.declared.Judgement.{Judgement}
-use Rattle.propagation.specs.Propagation.{judgement_of}
+use Rattle.std.proofs.Common.{rules}
+use Rattle.propagation.proofs.SegmentSum.{propagated, judged_allowed}
 use Rattle.propagation.proofs.propagation_of.Goals as goal
 
 pub returns : goal.returns
-unfolding judgement_of
 returns c =
-    let e = c.judged-found.ensures in record {
-      is = ap (λ (r : Judgement). r.propagation) e.is;
-      allowed = e.allowed.mark;
+    let i = propagated c.args.s (λ p d. search rules) c.judged.ensures.is c.unwrap_or_default.ensures in record {
+      is = i;
+      allowed = judged_allowed c.args.s i;
     }

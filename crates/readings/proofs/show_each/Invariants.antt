@@ -1,10 +1,9 @@
--- `readings::show_each` is safe and ends. The loop's invariant: the position lies within the list.
-use Prim.Native.Nat.{◌≤◌, ◌-◌}
-use lib.ListN.{length}
+-- `readings::show_each` is safe and ends: each turn leaves fewer bytes of the list.
+use Rattle.std.proofs.Common.{◌≤◌, length}
 use Rattle.readings.proofs.show_each.Given as goal
 
-abbrev pub invariant-loop-at : goal.invariant-loop-at
-invariant-loop-at g l = l.at ≤ length l.list
+abbrev pub invariant-loop-end : goal.invariant-loop-end
+invariant-loop-end g l = length l.rest ≤ length l.list
 
-abbrev pub decreases-loop-at : goal.decreases-loop-at
-decreases-loop-at g l = length l.list - l.at
+abbrev pub decreases-loop-end : goal.decreases-loop-end
+decreases-loop-end g l = length l.rest

@@ -10,5 +10,4 @@ returns c =
     let d = c.cell_of in
     let n = c.cell_of-2 in
     let emissions = c.emissions_of-emissions in
-    let t = c.tenths_at-added in
-    rw (back d.result d.type_inv, back n.result n.type_inv, d.ensures, n.ensures, emissions.ensures.0.is, emissions.ensures.1.is, back16 t.result t.type_inv, t.ensures)
+    rw (back d.result d.type_inv, back n.result n.type_inv, d.ensures, n.ensures, emissions.ensures.0.is, emissions.ensures.1.is, back16 c.args.tenths c.ranges.tenths.sfits)

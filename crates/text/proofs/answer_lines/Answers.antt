@@ -1,58 +1,51 @@
--- `text::answer_lines` meets its contract. Both loops' invariant: what is left to read gives the whole answer, the arrays hold what was worked out, and the cells are as they were.
-use mathlib.Core.Path.{refl}
-use native.Mathlib.Omega.{arith}
-use Rattle.study.specs.Plan.{empty_study, plan_of}
-use Rattle.text.proofs.Rest.{rest_segment, rest_none, rest_trains, rest_train, rest_after, rest_over, rest_done}
-use Rattle.text.proofs.Worked.{worked_none, worked_few, spread}
-use Rattle.text.proofs.Reached.{reached_as, segment_place, reached_segment, segment_at_fault, adds_back, train_place, reached_train, train_at_fault}
-use Rattle.text.proofs.TextAnswers.{refused_answers, accepted_answers}
+-- `text::answer_lines` meets its contract. Both loops' invariant: what is left to read gives the whole answer, and what was worked out is kept.
+use Rattle.std.proofs.Common.{arith, refl, sym, ◌∙◌, length, rules, subst, ◌≤◌}
+use Rattle.study.specs.Plan.{empty_plan}
+use Rattle.request.proofs.Answers.{Few, plan_answered}
+use Rattle.text.specs.Private.{Answers}
+use Rattle.text.proofs.Rest.{rest_start, rest_segment, rest_none, rest_trains, rest_train, rest_after, rest_over, rest_done}
+use Rattle.text.proofs.Worked.{worked_none}
+use Rattle.text.proofs.Reached.{reached_as, added_room, reached_segment, segment_at_fault, train_place, reached_train, train_at_fault}
+use Rattle.text.proofs.TextAnswers.{refused_answers, accepted_answers, line_mapped}
 use Rattle.text.proofs.answer_lines.Goals as goal
 
-pub reading-init : goal.reading-init
-reading-init c =
-    (omega arith, refl, record { study = empty_study; rest = record { within = c.requires; bound = omega arith; whole = refl }; worked = worked_none _ _ _ _ refl refl refl refl })
+pub loop-segment-init : goal.loop-segment-init
+loop-segment-init c = record { study = empty_plan; left = rest_start _ _ refl; worked = worked_none c.new-added.ensures c.new-entries.ensures }
 
-pub bounds-tenths-s : goal.bounds-tenths-s
-bounds-tenths-s c = segment_place (reached_as (λ st r. rest_segment c.reading.s r (omega arith)) c.reading.invariant.2) c.in-Taken.is c.segment_at.ensures
-
-pub bounds-close-s : goal.bounds-close-s
-bounds-close-s c = segment_place (reached_as (λ st r. rest_segment c.reading.s r (omega arith)) c.reading.invariant.2) c.in-Taken.is c.segment_at.ensures
+pub push-requires : goal.push-requires
+push-requires c = (search rules, added_room (reached_as (λ st r. rest_segment c.loop-segment.segment r (omega arith)) c.loop-segment.invariant) c.in-Ok.ensures)
 
 pub loop-init : goal.loop-init
 loop-init c =
-    let is = c.in-Taken.is in
-    let here = reached_as (λ st r. rest_segment c.reading.s r (omega arith)) c.reading.invariant.2 in
-    (omega arith, reached_as (λ st r. rest_trains _ _ r) (reached_segment here is c.segment_at.ensures (adds_back _ _ _ is c.segment_at.ensures) refl))
+    let here = reached_as (λ st r. rest_segment c.loop-segment.segment r (omega arith)) c.loop-segment.invariant in
+    rw c.push.ensures.items (reached_as (λ st r. rest_trains _ _ r) (reached_segment here c.in-Ok.ensures))
 
-pub bounds-trains-total : goal.bounds-trains-total
-bounds-trains-total c = train_place (reached_as (λ st r. rest_train _ c.loop.counter _ r (omega arith)) c.loop.invariant.1) c.in-Taken-train_at.is c.train_at.ensures
-
-pub bounds-places-total : goal.bounds-places-total
-bounds-places-total c = train_place (reached_as (λ st r. rest_train _ c.loop.counter _ r (omega arith)) c.loop.invariant.1) c.in-Taken-train_at.is c.train_at.ensures
+pub push-requires-in-Ok-train_at : goal.push-requires-in-Ok-train_at
+push-requires-in-Ok-train_at c = (search rules, train_place (reached_as (λ st r. rest_train _ c.loop.counter _ r (omega arith)) c.loop.invariant) c.len.ensures.value c.in-Ok-train_at.ensures)
 
 pub loop-preserved : goal.loop-preserved
 loop-preserved c =
-    let here = reached_as (λ st r. rest_train _ c.loop.counter _ r (omega arith)) c.loop.invariant.1 in
-    (omega arith, reached_train here c.in-Taken-train_at.is c.train_at.ensures c.reading.s refl)
+    rw c.push-in-Ok-train_at.ensures.items
+    (reached_train (reached_as (λ st r. rest_train _ c.loop.counter _ r (omega arith)) c.loop.invariant) c.len.ensures.value c.in-Ok-train_at.ensures c.loop-segment.segment refl)
 
-pub reading-preserved : goal.reading-preserved
-reading-preserved c =
-    (omega arith, c.reading.invariant.1, reached_as (λ st r. rest_after _ c.loop.counter _ r (omega arith)) c.loop.invariant.1)
+pub loop-segment-preserved : goal.loop-segment-preserved
+loop-segment-preserved c = reached_as (λ st r. rest_after _ c.loop.counter _ r (omega arith)) c.loop.invariant
 
-pub returns-then-at-text : goal.returns-then-at-text
-returns-then-at-text c =
-    refused_answers c.reading.invariant.1 (rest_over (rest_none c.reading.s c.reading.invariant.2.rest (omega arith)) (omega arith)) c.refused_answer.ensures
+pub returns-in-Err : goal.returns-in-Err
+returns-in-Err c =
+    refused_answers refl (segment_at_fault (reached_as (λ st r. rest_segment c.loop-segment.segment r (omega arith)) c.loop-segment.invariant) c.in-Err.ensures)
 
-pub returns-else-at-text : goal.returns-else-at-text
-returns-else-at-text c =
-    let here = c.reading.invariant.2 in
-    accepted_answers c.reading.invariant.1 (rest_done (rest_none c.reading.s here.rest (omega (arith, c.if-counts-s.true))) (omega (arith, c.if-at-text.false)))
-    (c.worked_answer.ensures (plan_of here.study) (worked_few here.worked) (spread here.worked)) c.at_line.ensures
+pub returns-in-Err-train_at : goal.returns-in-Err-train_at
+returns-in-Err-train_at c =
+    refused_answers refl (train_at_fault (reached_as (λ st r. rest_train _ c.loop.counter _ r (omega arith)) c.loop.invariant) c.len.ensures.value c.in-Err-train_at.ensures)
 
-pub returns-in-Refused : goal.returns-in-Refused
-returns-in-Refused c =
-    refused_answers c.reading.invariant.1 (segment_at_fault (reached_as (λ st r. rest_segment c.reading.s r (omega arith)) c.reading.invariant.2) c.in-Refused.is c.segment_at.ensures) c.refused_answer-in-Refused.ensures
+pub returns-then-not-is_empty : goal.returns-then-not-is_empty
+returns-then-not-is_empty c =
+    refused_answers refl (rest_over (rest_none c.loop-segment.segment c.loop-segment.invariant.left (omega arith)) c.if-not-is_empty.ensures)
 
-pub returns-in-Refused-train_at : goal.returns-in-Refused-train_at
-returns-in-Refused-train_at c =
-    refused_answers c.reading.invariant.1 (train_at_fault (reached_as (λ st r. rest_train _ c.loop.counter _ r (omega arith)) c.loop.invariant.1) c.in-Refused-train_at.is c.train_at.ensures) c.refused_answer-in-Refused-train_at.ensures
+pub returns-else-not-is_empty : goal.returns-else-not-is_empty
+returns-else-not-is_empty c =
+    let here = c.loop-segment.invariant in
+    let few : Few here.study = record { segments = omega (arith, here.worked.count, here.worked.few); entries = subst (λ es. length es ≤ 96) here.worked.rows here.worked.held } in
+    let answer = plan_answered here.study few (c.as_slice.ensures.value ∙ here.worked.adds) (c.as_slice-2.ensures.value ∙ here.worked.rows) c.levels_by.ensures.answered in
+    subst (Answers _ _ _) (sym (line_mapped c.levels_by.result (search rules))) (accepted_answers (rest_done (rest_none c.loop-segment.segment here.left (omega arith)) c.if-not-is_empty.ensures) answer)

@@ -1,11 +1,9 @@
--- `text::segment_at` meets its contract: the judgement of the fields, or why there are none.
-use Rattle.text.proofs.Steps.{segment_read, judged_segment, judged_fault}
+-- `text::segment_at` meets its contract.
+use Rattle.std.proofs.lemmas.Result.{err_from_is_err_and}
+use Rattle.text.proofs.Steps.{judged_fault}
 use Rattle.text.proofs.segment_at.Goals as goal
 
-pub returns-in-Accepted : goal.returns-in-Accepted
-returns-in-Accepted c =
-    judged_segment c.args.count (segment_read c.in-Found.is c.segment_fields.ensures) c.segment_judgement-judgement.ensures.is c.in-Accepted.is
-
-pub returns-in-Refused-check : goal.returns-in-Refused-check
-returns-in-Refused-check c =
-    judged_fault c.args.count (segment_read c.in-Found.is c.segment_fields.ensures) c.segment_judgement-judgement.ensures.is c.in-Refused-check.is
+pub returns-in_err-adds : goal.returns-in_err-adds
+returns-in_err-adds c =
+    let p = err_from_is_err_and c.from_residual-in_err-adds.result c.from_residual-in_err-adds.ensures.1 in
+    rw (p.1, p.2) (judged_fault c.in_ok-line.ensures c.in-Some.ensures c.args.count c.in_err-adds.ensures.is)

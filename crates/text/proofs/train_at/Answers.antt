@@ -1,12 +1,10 @@
--- `text::train_at` meets its contract: what the fields answer, or why there are none.
-use mathlib.Core.Path.{sym, ◌∙◌}
-use Rattle.text.proofs.Steps.{train_read, answered_train, answered_fault}
+-- `text::train_at` meets its contract.
+use Rattle.std.proofs.Common.{sym}
+use Rattle.std.proofs.lemmas.Result.{err_from_is_err_and}
+use Rattle.text.proofs.Steps.{answered_fault}
 use Rattle.text.proofs.train_at.Goals as goal
 
-pub returns-in-Accepted : goal.returns-in-Accepted
-returns-in-Accepted c =
-    answered_train (train_read c.in-Found.is c.train_fields.ensures) (sym c.train_answer.ensures.is ∙ c.in-Accepted.is)
-
-pub returns-in-Refused-train_answer : goal.returns-in-Refused-train_answer
-returns-in-Refused-train_answer c =
-    answered_fault (train_read c.in-Found.is c.train_fields.ensures) (sym c.train_answer.ensures.is ∙ c.in-Refused-train_answer.is)
+pub returns-in_err-train_answer : goal.returns-in_err-train_answer
+returns-in_err-train_answer c =
+    let p = err_from_is_err_and c.from_residual-in_err-train_answer.result c.from_residual-in_err-train_answer.ensures.1 in
+    rw (p.1, p.2) (answered_fault c.in_ok-line.ensures c.in-Some.ensures (sym c.in_err-train_answer.ensures.is))

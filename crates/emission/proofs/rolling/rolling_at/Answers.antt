@@ -6,4 +6,4 @@ use Rattle.emission.proofs.rolling.rolling_at.Goals as goal
 
 pub returns : goal.returns
 unfolding rollings
-returns c = to_z-of_z (rolling_fits c.args.row c.requires.0 c.requires.1)
+returns c = rw c.from.ensures (to_z-of_z (rolling_fits c.args.row c.requires.0 c.requires.1))

@@ -1,10 +1,10 @@
 -- `emission::vehicles::vehicles_step` meets its contract.
-use mathlib.Core.Path.{◌∙◌, ap}
-use Rattle.decibel.specs.Ints.{up}
-use Rattle.figures.proofs.Read.{train_read}
+use Rattle.std.proofs.Common.{lit<}
+use Rattle.figures.proofs.Kept.{train_ranged}
+use Rattle.figures.proofs.Signs.{read_up}
 use Rattle.emission.proofs.VehiclesStep.{vehicles_is}
 use Rattle.emission.proofs.vehicles.vehicles_step.Goals as goal
 
 pub returns : goal.returns
 returns c =
-    vehicles_is c.args.train c.requires (c.natural.ensures ∙ ap up (train_read c.args.train c.struct_told-1.given).vehicles) c.count_log.ensures
+    let g = train_ranged _ c.args.kept.kept in vehicles_is c.args.kept.train g (read_up (lit< tt) g.vehicles c.natural.ensures) c.count_log.ensures

@@ -1,47 +1,40 @@
--- `lines::contents::contents_of` meets its contract. The loop's invariant: the numbers read so far, and those from here on, are all of the line's.
-use Rattle.std.proofs.Common.{sym, refl, ◌∙◌, arith, rules}
-use Rattle.lines.proofs.Positions.{next_number}
-use Rattle.lines.proofs.Entries.{contents_wrong, contents_below, reached_first, reached_next, reached_wrong, ended_other, ended_exceeded, ended_none, ended_good, contents_refused, contents_counted}
+-- `lines::contents::contents_of` meets its contract. The loop's invariant: the numbers read so far, and those left, are all of the line's.
+use Rattle.std.proofs.Common.{◌≡◌, pos, sym, refl, ◌∙◌, ap, rules, arith, w32, to_z-of_z}
+use Rattle.lines.proofs.Entries.{is_count_then, no_count_then, first_wrong, first_below, reached_first, reached_next, ended_torn, ended_other, ended_none, ended_good}
 use Rattle.lines.proofs.contents.contents_of.Goals as goal
+use Rattle.lines.proofs.contents.contents_of.Goals.{then-not-is_empty-via-then-not-is_empty, then-not-is_empty-via-else-not-is_empty+then-announced-others}
 
 pub returns-in_default : goal.returns-in_default
-returns-in_default c = contents_refused refl (contents_wrong _ _ (sym c.number_at.ensures ∙ c.in_default.is))
+returns-in_default g c = first_wrong _ _ c.new-numbers.ensures c.in_default.ensures.number
 
-pub returns-then-first-lt0 : goal.returns-then-first-lt0
-returns-then-first-lt0 c = contents_refused refl (contents_below _ _ (sym c.number_at.ensures ∙ c.in-Value.is) (search rules) c.if-first-lt0.true)
+pub returns-in_default-try_from : goal.returns-in_default-try_from
+returns-in_default-try_from g c =
+    first_below _ _ c.new-numbers.ensures c.in-Some.ensures.number c.in-Some.ensures.left (no_count_then (search rules) c.in_default-try_from.ensures)
 
-pub loop-at-init : goal.loop-at-init
-loop-at-init c =
-    (refl, reached_first _ _ _ (omega arith) (sym c.number_at.ensures ∙ c.in-Value.is) (search rules) c.if-first-lt0.false)
+pub loop-value-init : goal.loop-value-init
+loop-value-init g c =
+    let count : c.in-Some.first ≡ pos c.in-Ok.announced = is_count_then (search rules) c.in-Ok.ensures.0 ∙ ap pos (sym c.in-Ok.ensures.1) in
+    reached_first _ _ c.new-numbers.ensures c.in-Some.ensures.number c.in-Some.ensures.left count c.new-counts.ensures
 
-pub returns-in_default-number_at : goal.returns-in_default-number_at
-returns-in_default-number_at c =
-    let h = c.loop-at.invariant in
-    contents_refused h.0 (reached_wrong h.1 c.loop-at-test.true (sym c.number_at-in-loop-at.ensures ∙ c.in_default-number_at.is))
+pub loop-value-preserved : goal.loop-value-preserved
+loop-value-preserved g c =
+    reached_next c.loop-value.invariant c.in-Some-next_number.ensures.left c.in-Some-next_number.ensures.number
+    (rw (to_z-of_z {w = w32} {z = c.in-Some-next_number.value} (search rules)) at c.with_count-sum.ensures)
 
-pub loop-at-smaller : goal.loop-at-smaller
-loop-at-smaller c = omega (arith, (next_number _ c.loop-at.at (sym c.number_at-in-loop-at.ensures ∙ c.in-Value-number_at.is)).0)
+pub returns-then-not-is_empty : goal.returns-then-not-is_empty
+returns-then-not-is_empty g c =
+    let last = c.in_default-next_number.ensures in
+    elim c.then-not-is_empty.branch [
+      | then-not-is_empty-via-then-not-is_empty w ↦ ended_torn c.loop-value.invariant last.left last.number (λ z. let t = w.if-not-is_empty.ensures.1 z in cc)
+      | then-not-is_empty-via-else-not-is_empty+then-announced-others w ↦ ended_other c.loop-value.invariant last.left last.number (w.if-not-is_empty.ensures.0 refl) w.if-announced-others.true
+    ]
 
-pub loop-at-preserved : goal.loop-at-preserved
-loop-at-preserved c =
-    let k = c.with_count-sum.ensures in
-    let h = c.loop-at.invariant in
-    (k.size ∙ h.0, reached_next h.1 h.0 (sym c.number_at-in-loop-at.ensures ∙ c.in-Value-number_at.is) (search rules) k)
-
-pub returns-then-announced-n : goal.returns-then-announced-n
-returns-then-announced-n c = let h = c.loop-at.invariant in contents_refused h.0 (ended_other h.1 c.loop-at-test.false c.if-announced-n.true)
-
-pub returns-in_default-sum : goal.returns-in_default-sum
-returns-in_default-sum c =
-    let h = c.loop-at.invariant in
-    contents_refused h.0 (ended_exceeded h.1 c.loop-at-test.false c.if-announced-n.false c.in_default-sum.is)
-
-pub returns-then-total-eq0 : goal.returns-then-total-eq0
-returns-then-total-eq0 c =
-    let h = c.loop-at.invariant in
-    contents_refused h.0 (ended_none h.1 c.loop-at-test.false c.if-announced-n.false c.in-Within.is c.if-total-eq0.true)
+pub returns-then-unwrap_or-eq0 : goal.returns-then-unwrap_or-eq0
+returns-then-unwrap_or-eq0 g c =
+    let last = c.in_default-next_number.ensures in
+    ended_none c.loop-value.invariant last.left last.number (c.if-not-is_empty.ensures.0 refl) c.if-announced-others.false (omega arith)
 
 pub returns : goal.returns
-returns c =
-    let h = c.loop-at.invariant in
-    contents_counted h.0 (ended_good h.1 c.loop-at-test.false c.if-announced-n.false c.in-Within.is c.if-total-eq0.false)
+returns g c =
+    let last = c.in_default-next_number.ensures in
+    ended_good c.loop-value.invariant last.left last.number (c.if-not-is_empty.ensures.0 refl) c.if-announced-others.false (λ z. omega arith)

@@ -1,11 +1,11 @@
--- `lines::contents::contents_of` meets its contract. The loop's invariant: the numbers read so far, and those from here on, are all of the line's.
-use Rattle.std.proofs.Common.{◌≡◌, ◌+◌, ◌-◌, length}
+-- `lines::contents::contents_of` meets its contract. The loop's invariant: the numbers read so far, and those left, are all of the line's.
+use Rattle.std.proofs.Common.{length}
 use Rattle.lines.specs.Contents.{limits}
 use Rattle.lines.proofs.Entries.{Reached}
 use Rattle.lines.proofs.contents.contents_of.Given as goal
 
-abbrev pub invariant-loop-at : goal.invariant-loop-at
-invariant-loop-at l = (length l.counts ≡ length l.initial.counts) × Reached (limits (length l.initial.counts) l.entries) l.line l.announced l.counts l.sum l.at l.n
+abbrev pub invariant-loop-value : goal.invariant-loop-value
+invariant-loop-value g l = Reached (limits g.row.N l.entries) l.line l.announced l.counts.items l.sum l.numbers l.others
 
-abbrev pub decreases-loop-at : goal.decreases-loop-at
-decreases-loop-at l = length l.line + 1 - l.at
+abbrev pub decreases-loop-value : goal.decreases-loop-value
+decreases-loop-value g l = length l.numbers

@@ -1,9 +1,10 @@
 -- `propagation::ground::ground_factor` meets its contract.
-use Rattle.propagation.proofs.GroundStep.{clamped_most, factor_is}
+use mathlib.Core.Path.{◌∙◌}
+use lib.Dec.{lit≤}
+use Rattle.decibel.proofs.Greatest.{clamp_is}
+use Rattle.propagation.proofs.GroundStep.{factor_is}
 use Rattle.propagation.proofs.ground.ground_factor.Goals as goal
-
-pub overflow_sub-result : goal.overflow_sub-result
-overflow_sub-result c = clamped_most c.requires.ranged c.natural.ensures c.natural-2.ensures c.clamp.ensures
+use Rattle.propagation.proofs.Chain.{in_range}
 
 pub returns : goal.returns
-returns c = factor_is c.requires.ranged c.natural.ensures c.natural-2.ensures c.clamp.ensures
+returns c = factor_is (in_range c.args.ranged) c.natural.ensures c.natural-2.ensures (c.clamp.ensures ∙ clamp_is 100 600 _ (lit≤ tt))

@@ -1,11 +1,11 @@
 -- `propagation::ground::ground_step` meets its contract.
 use Rattle.propagation.proofs.GroundStep.{path_near, path_far}
 use Rattle.propagation.proofs.ground.ground_step.Goals as goal
+use Rattle.propagation.proofs.Chain.{in_range}
 
 pub returns-then-natural-le2500 : goal.returns-then-natural-le2500
-returns-then-natural-le2500 c = let p = c.requires in path_near p.0.ranged p.1 c.natural.ensures c.if-natural-le2500.true
+returns-then-natural-le2500 c = path_near (in_range c.args.ranged) c.requires c.natural.ensures c.if-natural-le2500.true
 
 pub returns : goal.returns
 returns c =
-    let p = c.requires in
-    path_far p.0.ranged p.1 c.natural.ensures c.if-natural-le2500.false c.attenuation_of-a.ensures c.ground_tenths.ensures c.is_close.ensures
+    path_far (in_range c.args.ranged) c.requires c.natural.ensures c.if-natural-le2500.false c.attenuation_of-a.ensures c.ground_tenths.ensures c.is_close.ensures

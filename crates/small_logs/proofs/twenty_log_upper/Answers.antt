@@ -1,8 +1,0 @@
--- Past the last key of `small_logs::twenty_log_upper` its list has no entry.
-use Rattle.small_logs.specs.Lists.{twenty_log_upper_list}
-use Rattle.decibel_tables.proofs.Match.{past}
-use Rattle.small_logs.proofs.twenty_log_upper.Goals as goal
-
-pub returns-in_default : goal.returns-in_default
-unfolding twenty_log_upper_list
-returns-in_default c = past twenty_log_upper_list c.args.i c.in_default.in_default-own.rest
