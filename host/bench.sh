@@ -34,9 +34,10 @@ if [ "$times" = yes ]; then
 fi
 echo "# Instructions of one call: 11 calls less 1, over 10; the product's ratio to each"
 
-# collected WHO HEAD ROW COUNT: what callgrind collects over the whole program
+# collected WHO HEAD ROW COUNT: what callgrind collects over the whole program. It counts a repeated string instruction once for each byte, so
+# the C library is told to fill and copy without them.
 collected() {
-    valgrind --tool=callgrind --callgrind-out-file=/dev/null "$build/bench" call "$1" "$2" "$3" "$4" 2>&1 |
+    GLIBC_TUNABLES=glibc.cpu.x86_rep_stosb_threshold=1000000:glibc.cpu.x86_rep_movsb_threshold=1000000 valgrind --tool=callgrind --callgrind-out-file=/dev/null "$build/bench" call "$1" "$2" "$3" "$4" 2>&1 |
         sed -n 's/.*Collected : \([0-9]*\).*/\1/p'
 }
 
