@@ -56,7 +56,6 @@ SPARE = {
     "crates/lines/proofs/Digits.antt": "passed_none below_four",
     "crates/lines/proofs/Entries.antt": "count_fits still_exceeded",
     "crates/propagation/proofs/AngleStep.antt": "product_fits quotient_fits angle_fits",
-    "crates/propagation/proofs/GroundStep.antt": "soft_fits louder_fits louder_is",
     "crates/propagation/proofs/OppositeStep.antt": "opposite_fits",
     "crates/propagation/proofs/ScreenStep.antt": "depth_fits rise_fits no_screen",
     "crates/propagation/proofs/SegmentSum.antt": "path_fits",

@@ -147,9 +147,6 @@ module _ {s : Segment} (g : Ranged s) {n : ℕ} (e : n ≡ slant (read s.distanc
       below i l = let h : tie_at i < 80 * d = omega arith in lt_of_lt_of_le (square_below h) wide
 
   module _ {j : ℕ} (p : Passed (6400 * n) j) where
-    pub tie_fits : Fits w64 (tie_at j * tie_at j)
-    tie_fits = let h : tie_at j ≤ 2450000 = omega (arith, p.most) in omega (arith, mul-le-mul h h)
-
     pub passed_next : tie_at j * tie_at j < 6400 * n → Passed (6400 * n) (j + 1)
     passed_next l = record { each = λ i h. pick i (dec_le (suc i) j) h; most = more (dec_le j 23) }
       where

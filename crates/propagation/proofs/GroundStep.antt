@@ -3,26 +3,24 @@
 use mathlib.Core.Path.{◌≡◌, refl, sym, ◌∙◌, ap, ap₂, subst}
 use mathlib.Core.Bool.{Bool, true, false, cond}
 use Prim.Native.Nat.{ℕ, ◌+◌, ◌-◌, ◌*◌, ◌/◌, ◌≤◌, ◌<◌, zero-le}
-use native.Mathlib.Nat.{le_trans, lt_of_le_of_lt, mul-le-mul, zero-mul, zero-div}
+use native.Mathlib.Nat.{le_trans, lt_of_le_of_lt, mul-le-mul}
 use native.Mathlib.Omega.{arith}
 use lib.Dec.{ltb, lit<, lit≤}
-use lib.IntN.{ℤ, pos, neg_ℤ, ◌-ℤ◌}
-use mir.Syntax.{w32, w64}
-use mir.Val.{Fits, SFits, to_z}
+use lib.IntN.{ℤ, pos, neg_ℤ}
 use borrow.Author.Tests.{ltb-true, lt-ltb, le-ltb}
 use Rattle.decibel.specs.Ints.{up}
 use Rattle.decibel.specs.Greatest.{clamp}
 use Rattle.decibel.specs.Fine.{fine_log_at}
 use Rattle.decibel.specs.Lookup.{Whole}
 use Rattle.decibel.specs.Round.{nearest, by_mark}
-use Rattle.decibel.proofs.Ints.{add_is, neg_is, mag_most, from_parts}
+use Rattle.decibel.proofs.Ints.{neg_is}
 use Rattle.decibel.proofs.Round.{unmarked-nearest}
 use Rattle.figures.specs.declared.Segment.{Segment}
 use Rattle.figures.specs.Rules.{unscreened}
 use Rattle.figures.specs.Bounds.{Below}
 use Rattle.figures.specs.Private.{Exactly}
 use Rattle.figures.proofs.Ranged.{Signed, Ranged}
-use Rattle.figures.proofs.Signs.{read, below_more, below_back, natural_below, cast_read, read_up, returned, exactly_read}
+use Rattle.figures.proofs.Signs.{read, natural_below, read_up, returned, exactly_read}
 use Rattle.figures.proofs.Lies.{lies_within, lies_fence}
 use Rattle.propagation.specs.Screen.{screen_fence}
 use Rattle.propagation.specs.Ground.{ground_factor, grounded, ground_fence, path_fence, is_close, attenuation, ground_mark}
@@ -38,9 +36,6 @@ module _ {s : Segment} (g : Ranged s) {o : ℕ} (e : o ≡ up (read s.soft)) whe
   soft_read : o ≡ up s.soft
   soft_read = read_up (lit< tt) g.soft e
 
-  pub soft_fits : Fits w64 (600 * o)
-  soft_fits = omega (arith, soft_read, g.soft.most)
-
   module _ {n c : ℕ} (f : n ≡ up (read s.mean)) (i : c ≡ clamp 100 600 n) where
     pub factor_is : (600 * o * (600 - c) ≡ ground_factor s) × (600 * o * (600 - c) ≤ 3000000)
     unfolding ground_factor
@@ -48,54 +43,21 @@ module _ {s : Segment} (g : Ranged s) {o : ℕ} (e : o ≡ up (read s.soft)) whe
         let q = ap₂ (λ (x y : ℕ). 600 * x * (600 - y)) soft_read (i ∙ ap (clamp 100 600) (read_up (lit< tt) g.mean f)) in
         (q, subst (λ (x : ℕ). x ≤ 3000000) (sym q) (factor_most g))
 
-    pub factor_fits : Fits w64 (600 * o * (600 - c))
-    factor_fits = record { fits = lt_of_le_of_lt factor_is.1 (lit< tt) }
-
 module _ {s : Segment} (g : Ranged s) {n w : ℕ} (e : n ≡ up (read s.distance)) (a : Whole 100000000 (fine_log_at (4 * n)) w) where
   whole_is : w ≡ fine_log_at (4 * up s.distance)
   whole_is = a.is ∙ ap (λ (x : ℕ). fine_log_at (4 * x)) (read_up (lit< tt) g.distance e)
 
-  pub attenuation_none : w < 40000000 → Whole 20000000 (attenuation s) 0
-  unfolding attenuation
-  attenuation_none h = record { is = sym (value whole_is); small = lit< tt }
-    where
-      value : w ≡ fine_log_at (4 * up s.distance) → (fine_log_at (4 * up s.distance) - 40000000) * ground_factor s / 10000000 ≡ 0
-      value q =
-          let z : fine_log_at (4 * up s.distance) - 40000000 ≡ 0 = omega arith in
-          rw (z, zero-mul (ground_factor s)) (zero-div 10000000)
+  module _ {k x : ℕ} (i : x ≡ w - 40000000) (f : (k ≡ ground_factor s) × (k ≤ 3000000)) where
+    part_most : x * k ≤ 180000000000000
+    part_most = let l : x ≤ 60000000 = omega (arith, a.small) in mul-le-mul l f.1
 
-  module _ {k : ℕ} (f : (k ≡ ground_factor s) × (k ≤ 3000000)) where
-    part_most : (w - 40000000) * k ≤ 180000000000000
-    part_most = let l : w - 40000000 ≤ 60000000 = omega (arith, a.small) in mul-le-mul l f.1
-
-    pub part_fits : Fits w64 ((w - 40000000) * k)
-    part_fits = record { fits = lt_of_le_of_lt part_most (lit< tt) }
-
-    pub attenuation_some : Whole 20000000 (attenuation s) ((w - 40000000) * k / 10000000)
+    pub attenuation_is : Whole 20000000 (attenuation s) (x * k / 10000000)
     unfolding attenuation
-    attenuation_some =
+    attenuation_is =
         record {
-          is = ap₂ (λ (x y : ℕ). (x - 40000000) * y / 10000000) whole_is f.0;
+          is = ap₂ (λ (y z : ℕ). y * z / 10000000) (i ∙ ap (λ (y : ℕ). y - 40000000) whole_is) f.0;
           small = omega (arith, part_most);
         }
-
-module _ (a : ℕ) (h : a < 20000000) where
-  abbrev tenths : ℕ
-  tenths = (a + 48499) / 100000
-
-  none_less : pos 0 -ℤ to_z w32 tenths ≡ neg_ℤ (pos tenths)
-  none_less =
-      ap (λ (x : ℤ). pos 0 -ℤ x) (cast_read tenths (omega arith))
-      ∙ from_parts (pos 0 -ℤ pos tenths) (neg_ℤ (pos tenths)) (omega (arith, add_is (pos 0) (neg_ℤ (pos tenths))))
-
-  tenths_below : Below 1000 (neg_ℤ (pos tenths))
-  tenths_below = record { most = omega (arith, neg_is (pos tenths)); least = omega (arith, neg_is (pos tenths)) }
-
-  pub louder_fits : SFits w32 (pos 0 -ℤ to_z w32 tenths)
-  louder_fits = rw none_less (record { sfits = omega (arith, mag_most (neg_ℤ (pos tenths)), tenths_below.most, tenths_below.least) })
-
-  pub louder_is : read (pos 0 -ℤ to_z w32 tenths) ≡ neg_ℤ (pos tenths)
-  louder_is = ap read none_less ∙ below_back (below_more (lit≤ tt) tenths_below)
 
 -- the mark and the fence in each of the three cases
 module _ (s : Segment) where

@@ -60,9 +60,6 @@ module _ {s : Segment} (g : Ranged s) (q : ReadingsRanged s) {o : ℕ} (e : o �
     share_most : 1500000 * o / v ≤ 1500000
     share_most = div-le_of_le-mul v (omega (arith, view_read, opposite_read, q.opposite.most))
 
-    pub share_fits : Fits w64 (1500000 * o / v + 50000)
-    share_fits = omega (arith, share_most)
-
     pub share_cast : SFits w32 (pos ((1500000 * o / v + 50000) / 100000))
     share_cast = record { sfits = omega (arith, share_most) }
 

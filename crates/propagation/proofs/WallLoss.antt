@@ -6,12 +6,13 @@ use mathlib.Core.Bool.{Bool, true, false, cond}
 use Prim.Native.Nat.{ℕ, zero, suc, ◌+◌, ◌*◌, ◌/◌, ◌≤◌, ◌<◌}
 use native.Mathlib.Nat.{lt_irrefl}
 use native.Mathlib.Omega.{arith}
-use lib.Dec.{T, leb, lit<, lit≤}
+use lib.Dec.{leb, lit<, lit≤}
 use lib.IntN.{ℤ, pos, negsuc, neg_ℤ, ◌+ℤ◌, ◌-ℤ◌, +ℤ_comm}
-use lib.Signed.{◌≤ℤ◌, ◌<ℤ◌, lt_z}
+use lib.Signed.{◌≤ℤ◌, ◌<ℤ◌}
 use mir.Syntax.{w32}
 use mir.Val.{SFits, to_z}
-use borrow.Author.Tests.{le-leb, lt-leb, ltb-true}
+use borrow.Author.Tests.{le-leb, lt-leb, lt-ltb}
+use Rattle.std.specs.Int.{int_min}
 use Rattle.decibel.specs.Ints.{up, dn}
 use Rattle.decibel.specs.Round.{micro, tie, nearest, IsFence, IsNearest}
 use Rattle.decibel.proofs.Ints.{add_is, add_most, neg_is, from_parts, ints}
@@ -31,16 +32,12 @@ unfolding at_most_zero
 cut_is (pos n) = (refl, refl)
 cut_is (negsuc n) = (refl, refl)
 
--- what is below zero stays, all else is cut
-cut_kept : (z : ℤ) → lt_z z (pos 0) ≡ true → at_most_zero z ≡ z
+-- the cut is the lesser of the number and zero
+cut_min : (z : ℤ) → int_min z (pos 0) ≡ at_most_zero z
 unfolding at_most_zero
-cut_kept (pos n) e = let x : ⊥ = omega (arith, ltb-true n 0 e) in absurd x
-cut_kept (negsuc n) e = refl
-
-cut_none : (z : ℤ) → lt_z z (pos 0) ≡ false → at_most_zero z ≡ pos 0
-unfolding at_most_zero
-cut_none (pos n) e = refl
-cut_none (negsuc n) e = absurd (subst T e tt)
+cut_min (pos zero) = refl
+cut_min (pos (suc n)) = rw (lt-ltb 0 (suc n) (omega arith)) refl
+cut_min (negsuc n) = refl
 
 -- the ties about r tenths, cut, lie about the number cut
 cut_low : (f r : ℤ) → tie r ≤ℤ f → tie (at_most_zero r) ≤ℤ at_most_zero f
@@ -195,10 +192,7 @@ module _ (n : ℕ) (r : ℤ) (below : Below 2000 r) where
     lost : Sum 2051 r (pos (5 * n)) (read (read r +ℤ to_z w32 (5 * n)))
     lost = rw loss_cast (summed below loss_small (lit≤ tt))
 
-    pub loss_kept : 1 ≤ n → lt_z (read (read r +ℤ to_z w32 (5 * n))) (pos 0) ≡ true → Exactly (reduced (5 * n) r) (read (read r +ℤ to_z w32 (5 * n)))
-    loss_kept h e =
-        let i = lost.is ∙ sym (with_loss h ∙ cut_kept (r +ℤ pos (5 * n)) (subst (λ (z : ℤ). lt_z z (pos 0) ≡ true) lost.is e)) in
-        record { is = i; small = subst (Below 2000) (sym i) reduced_small }
-
-    pub loss_cut : 1 ≤ n → lt_z (read (read r +ℤ to_z w32 (5 * n))) (pos 0) ≡ false → Exactly (reduced (5 * n) r) (pos 0)
-    loss_cut h e = record { is = sym (with_loss h ∙ cut_none (r +ℤ pos (5 * n)) (subst (λ (z : ℤ). lt_z z (pos 0) ≡ false) lost.is e)); small = natural_below (lit< tt) }
+    pub loss_cut : {m : ℤ} → 1 ≤ n → m ≡ int_min (read (read r +ℤ to_z w32 (5 * n))) (pos 0) → Exactly (reduced (5 * n) r) (read m)
+    loss_cut h e =
+        let i = e ∙ ap (λ (z : ℤ). int_min z (pos 0)) lost.is ∙ cut_min (r +ℤ pos (5 * n)) ∙ sym (with_loss h) in
+        returned (lit≤ tt) i (subst (Below 2000) (sym i) reduced_small)

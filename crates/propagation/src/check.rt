@@ -1,8 +1,7 @@
 // The chain of refusals of a segment: its ranges, then the shadow, then the readings.
 ghost use Rattle.std.specs.Prelude.{◌≡◌};
 ghost use Rattle.propagation.specs.Screen.{shadow_kept};
-ghost use Rattle.propagation.specs.Private.{Differs};
-ghost use Rattle.propagation.specs.Private.{Judges};
+ghost use Rattle.propagation.specs.Private.{Differs, Judges};
 
 use crate::kept::{InRange, Kept};
 use crate::screen;

@@ -29,10 +29,7 @@ fn attenuation_of(ranged: InRange) -> u64
 {
     let s = ranged.segment;
     let whole = decibel::fine_log(4 * natural(s.distance));
-    if whole < 40000000 {
-        return 0;
-    }
-    (whole - 40000000) * ground_factor(ranged) / 10000000
+    whole.saturating_sub(40000000) * ground_factor(ranged) / 10000000
 }
 
 // The tenths: the nearest, and the louder up to 0.0015 dB past a tie.
@@ -47,8 +44,7 @@ fn ground_tenths(a: u64) -> i32
 fn is_close(a: u64) -> bool
     ensures { result ≡ is_close a }
 {
-    let rest = a % 100000;
-    (48500 <= rest) & (rest <= 51500)
+    (48500..=51500).contains(&(a % 100000))
 }
 
 // Ground, where no screen stands.

@@ -53,11 +53,7 @@ fn path_difference(ranged: InRange) -> u64
     ensures { result ≡ path_difference ranged.segment }
 {
     let over = to_top(ranged) + from_top(ranged);
-    let straight = direct(ranged);
-    if over < straight {
-        return 0;
-    }
-    over - straight
+    over.saturating_sub(direct(ranged))
 }
 
 // The same, taken only where there is a screen.
@@ -106,9 +102,5 @@ pub(crate) fn screen_step(kept: Kept) -> i32
     if metres < 1 {
         return step;
     }
-    let louder = step + (5 * metres) as i32;
-    if louder < 0 {
-        return louder;
-    }
-    0
+    (step + (5 * metres) as i32).min(0)
 }
