@@ -57,7 +57,7 @@ SPARE = {
     "crates/lines/proofs/Entries.antt": "count_fits still_exceeded",
     "crates/propagation/proofs/AngleStep.antt": "product_fits quotient_fits angle_fits",
     "crates/propagation/proofs/OppositeStep.antt": "opposite_fits",
-    "crates/propagation/proofs/ScreenStep.antt": "depth_fits rise_fits no_screen",
+    "crates/propagation/proofs/ScreenStep.antt": "depth_fits rise_fits",
     "crates/propagation/proofs/SegmentSum.antt": "path_fits",
     "crates/propagation/proofs/WallLoss.antt": "wall_most",
     "crates/request/proofs/Counts.antt": "none_yet none_more none_all",

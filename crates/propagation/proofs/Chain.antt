@@ -15,12 +15,11 @@ use Rattle.figures.specs.Rules.{unscreened, range_check, readings_kept, lowest_n
 use Rattle.figures.proofs.Kept.{first_kept, rest_kept, ranges_first, ranged, readings_ranged}
 use Rattle.figures.proofs.Ranged.{Ranged}
 use Rattle.figures.proofs.Numbers.{unless_number, ranges_number}
-use Rattle.propagation.specs.Screen.{path_difference, most_shadow, shadow_kept}
+use Rattle.propagation.specs.Screen.{difference_of, path_difference, most_shadow, shadow_kept}
 use Rattle.propagation.specs.Check.{segment_check, segment_lines}
 use Rattle.propagation.specs.declared.kept.InRange.{InRange}
-use Rattle.propagation.specs.Private.{Differs}
 use Rattle.propagation.proofs.Ranges.{Ranges}
-use Rattle.std.specs.Prelude.{Ok, Err}
+use Rattle.std.specs.Prelude.{Some, None, Ok, Err}
 
 in_depth : (s : Segment) → shadow_kept s ≡ true → unscreened s ≡ false → in_shadow s ≡ true → path_difference s ≤ most_shadow
 unfolding shadow_kept
@@ -79,11 +78,28 @@ segment_number_lem s = ranges_number s _ ((6, shadow_kept s) ∷ (7, readings_ke
 pub segment_checked : (s : Segment) {r : Check} → r ≡ segment_check s → (r ≡ segment_check s) × (check_number r ≡ lowest_number (segment_lines s))
 segment_checked s e = (e, ap check_number e ∙ segment_number_lem s)
 
--- line 6 by the path difference, taken only where there is a screen
-pub shadow_is : (s : Segment) {m : ℕ} {a b : Bool} → Differs s m → a ≡ unscreened s → b ≡ in_shadow s → (a || (not b || leb m most_shadow)) ≡ shadow_kept s
-unfolding shadow_kept
-shadow_is s {m} {a} {b} d e f = rw (e, f) (go (unscreened s) d.is)
+-- where there is a screen, and where there is none
+pub with_screen : (s : Segment) (m : ℕ) → Some m ≡ difference_of s → (unscreened s ≡ false) × (m ≡ path_difference s)
+unfolding difference_of
+with_screen s m e = go (unscreened s) refl
   where
-    go : (x : Bool) → (x ≡ false → m ≡ path_difference s) → (x || (not (in_shadow s) || leb m most_shadow)) ≡ (x || (not (in_shadow s) || leb (path_difference s) most_shadow))
-    go true h = refl
-    go false h = ap (λ (n : ℕ). not (in_shadow s) || leb n most_shadow) (h refl)
+    go : (b : Bool) → unscreened s ≡ b → (unscreened s ≡ false) × (m ≡ path_difference s)
+    go true i = absurd (cc)
+    go false i = (i, cc)
+
+pub no_screen : (s : Segment) → None ≡ difference_of s → unscreened s ≡ true
+unfolding difference_of
+no_screen s e = go (unscreened s) refl
+  where
+    go : (b : Bool) → unscreened s ≡ b → unscreened s ≡ true
+    go true i = i
+    go false i = absurd (cc)
+
+-- line 6 by the path difference
+pub shadow_is : (s : Segment) (m : ℕ) {b : Bool} → Some m ≡ difference_of s → b ≡ in_shadow s → (not b || leb m most_shadow) ≡ shadow_kept s
+unfolding shadow_kept
+shadow_is s m d f = let p = with_screen s m d in rw (p.0, p.1, f) refl
+
+pub no_shadow : (s : Segment) → None ≡ difference_of s → true ≡ shadow_kept s
+unfolding shadow_kept
+no_shadow s e = rw (no_screen s e) refl

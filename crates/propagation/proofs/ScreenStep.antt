@@ -1,7 +1,7 @@
 -- The screen step: the three lengths and the path difference as the code takes them, the formulas, how far they lie from zero.
 -- Assumes nothing.
 use mathlib.Core.Path.{◌≡◌, refl, sym, ◌∙◌, ap, ap₂, subst}
-use mathlib.Core.Bool.{Bool, true, false, cond, true≢false}
+use mathlib.Core.Bool.{Bool, true, false, cond}
 use Prim.Native.Nat.{ℕ, ◌+◌, ◌-◌, ◌*◌, ◌≤◌, ◌<◌}
 use native.Mathlib.Nat.{le_trans, lt_irrefl, lt_of_lt_of_le, lt_of_not-le, mul-le-mul}
 use native.Mathlib.Omega.{arith}
@@ -19,7 +19,7 @@ use Rattle.decibel.proofs.Ints.{add_is, add_most, neg_is, mag_most}
 use Rattle.decibel.proofs.Greatest.{root_low}
 use Rattle.figures.specs.declared.Segment.{Segment}
 use Rattle.figures.specs.Geometry.{slant, slant_square, in_shadow}
-use Rattle.figures.specs.Rules.{unscreened, most_distance}
+use Rattle.figures.specs.Rules.{most_distance}
 use Rattle.figures.specs.Bounds.{Below}
 use Rattle.figures.specs.Private.{Exactly}
 use Rattle.figures.proofs.Ranged.{From, Signed, Ranged}
@@ -28,7 +28,7 @@ use Rattle.figures.proofs.Squares.{slant_most}
 use Rattle.figures.proofs.Tenths.{tenths_of_lem}
 use Rattle.figures.proofs.Lies.{lies_within, lies_fence}
 use Rattle.propagation.specs.Screen.{length_of, path_difference, most_shadow, screen_formula, wall_metres, wall_loss, reduced, screen_fence}
-use Rattle.propagation.specs.Private.{Differs, Length}
+use Rattle.propagation.specs.Private.{Length}
 use Rattle.propagation.proofs.DistanceStep.{slant_square_most}
 use Rattle.propagation.proofs.WallLoss.{nearest-reduced, lies_reduced}
 
@@ -117,10 +117,6 @@ module _ {s : Segment} (g : Ranged s) where
 pub path_is : (s : Segment) {a b c : ℕ} → Length (slant s.setback s.top) a → Length (slant (s.distance -ℤ s.setback) (s.height -ℤ s.top)) b → Length (slant_square s) c → a + b - c ≡ path_difference s
 unfolding path_difference
 path_is s k l m = omega (arith, k.is, l.is, m.is)
-
--- taken only where there is a screen
-pub no_screen : (s : Segment) {b : Bool} → b ≡ unscreened s → b ≡ true → Differs s 0
-no_screen s e i = record { is = λ f. absurd (true≢false (sym i ∙ e ∙ f)) }
 
 -- ---- the formulas
 

@@ -1,11 +1,12 @@
 -- What contracts of this crate's private functions cite.
 -- Assumes nothing.
-use Rattle.std.specs.Prelude.{◌≡◌, false, ℕ, ◌<◌, ℤ, ◌+ℤ◌, Result, Ok, Err}
+use Rattle.std.specs.Prelude.{◌≡◌, true, false, ℕ, ◌<◌, ℤ, ◌+ℤ◌, Option, Some, None, Result, Ok, Err}
 use Rattle.std.specs.Int.Signed.{mag}
-use Rattle.decibel.specs.Round.{by_mark}
+use Rattle.decibel.specs.Round.{nearest, by_mark}
 use Rattle.figures.specs.declared.Segment.{Segment}
 use Rattle.figures.specs.Rules.{unscreened}
 use Rattle.figures.specs.Bounds.{Below}
+use Rattle.figures.specs.Private.{Exactly}
 use Rattle.figures.specs.declared.Refusal.{Refusal}
 use Rattle.propagation.specs.declared.kept.Kept.{Kept}
 use Rattle.propagation.specs.declared.SegmentBreakdown.{SegmentBreakdown}
@@ -13,13 +14,14 @@ use Rattle.propagation.specs.declared.Propagation.{Propagation}
 use Rattle.propagation.specs.declared.ground.Path.{Path}
 use Rattle.propagation.specs.Check.{segment_check}
 use Rattle.propagation.specs.Angle.{y_of}
-use Rattle.propagation.specs.Screen.{length_of, path_difference}
+use Rattle.propagation.specs.Screen.{length_of, screen_fence}
 use Rattle.propagation.specs.Ground.{path_fence, ground_mark}
 use Rattle.propagation.specs.Propagation.{added_up}
 
--- m is the path difference where there is a screen
-pub record Differs (s : Segment) (m : ℕ) : Type 0 where
-  pub is : unscreened s ≡ false → m ≡ path_difference s
+-- the screen's tenths where there is one, none where there is not
+unfoldable pub Screens : Segment → Option ℤ → Type 0
+Screens s None = unscreened s ≡ true
+Screens s (Some r) = (unscreened s ≡ false) × Exactly (nearest (screen_fence s)) r
 
 pub record Length (n r : ℕ) : Type 0 where
   pub is : r ≡ length_of n

@@ -1,6 +1,6 @@
 -- The screen step (01, "The steps"; paragraph 24, Figure 4, Charts 6(a) and 6(b)), reduced for a wall on the far side (02, L1; paragraphs 28 and 29), and line 6.
 -- Assumes nothing.
-use Rattle.std.specs.Prelude.{Bool, true, false, cond, not, ◌||◌, ℕ, zero, suc, ◌+◌, ◌-◌, ◌*◌, ◌/◌, leb, ℤ, pos, negsuc, ◌+ℤ◌, ◌-ℤ◌, ◌≤ℤ◌}
+use Rattle.std.specs.Prelude.{Bool, true, false, cond, not, ◌||◌, ℕ, zero, suc, ◌+◌, ◌-◌, ◌*◌, ◌/◌, leb, ℤ, pos, negsuc, ◌+ℤ◌, ◌-ℤ◌, ◌≤ℤ◌, Option, Some, None}
 use Rattle.decibel.specs.Ints.{up}
 use Rattle.decibel.specs.Greatest.{whole_root}
 use Rattle.decibel.specs.Log.{fence}
@@ -17,6 +17,10 @@ unfoldable pub path_difference : Segment → ℕ
 path_difference s =
     length_of (slant s.setback s.top) + length_of (slant (s.distance -ℤ s.setback) (s.height -ℤ s.top))
     - length_of (slant_square s)
+
+-- δ where there is a screen
+unfoldable pub difference_of : Segment → Option ℕ
+difference_of s = cond (unscreened s) None (Some (path_difference s))
 
 -- 2.5 m, in ten-millionths of a metre as δ is
 abbrev pub most_shadow : ℕ

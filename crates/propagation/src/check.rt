@@ -1,7 +1,7 @@
 // The chain of refusals of a segment: its ranges, then the shadow, then the readings.
 ghost use Rattle.std.specs.Prelude.{◌≡◌};
-ghost use Rattle.propagation.specs.Screen.{shadow_kept};
-ghost use Rattle.propagation.specs.Private.{Differs, Judges};
+ghost use Rattle.propagation.specs.Screen.{difference_of, shadow_kept};
+ghost use Rattle.propagation.specs.Private.{Judges};
 
 use crate::kept::{InRange, Kept};
 use crate::screen;
@@ -9,11 +9,15 @@ use figures::ranges::{range_check, readings_kept};
 use figures::{Refusal, Segment};
 
 // Line 6, by the path difference.
-fn shadow_kept(s: Segment, m: u64) -> bool
-    requires { Differs s m }
+#[tactic(auto, using(crate::proofs::Chain::shadow_is, crate::proofs::Chain::no_shadow))]
+fn shadow_kept(s: Segment, difference: Option<u64>) -> bool
+    requires { difference ≡ difference_of s }
     ensures { result ≡ shadow_kept s }
 {
-    figures::is_unscreened(s) | (!figures::in_shadow(s) | (m <= screen::MOST_SHADOW))
+    match difference {
+        Some(m) => !figures::in_shadow(s) | (m <= screen::MOST_SHADOW),
+        None => true,
+    }
 }
 
 // The segment with its path difference, or the first line that it does not keep.

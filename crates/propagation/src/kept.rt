@@ -1,8 +1,8 @@
 // Segments that keep their lines: whoever holds one need not be told so again.
-ghost use Rattle.std.specs.Prelude.{◌≡◌, false, Ok};
-ghost use Rattle.figures.specs.Rules.{unscreened, range_check};
+ghost use Rattle.std.specs.Prelude.{◌≡◌, Ok};
+ghost use Rattle.figures.specs.Rules.{range_check};
 ghost use Rattle.propagation.specs.Check.{segment_check};
-ghost use Rattle.propagation.specs.Screen.{path_difference};
+ghost use Rattle.propagation.specs.Screen.{difference_of};
 
 use figures::Segment;
 
@@ -13,11 +13,11 @@ pub(crate) struct InRange {
     ghost kept: { range_check segment ≡ Ok tt },
 }
 
-// One that keeps all its lines, with the path difference where there is a screen, else 0.
+// One that keeps all its lines, with the path difference where there is a screen.
 #[derive(Clone, Copy)]
 pub(crate) struct Kept {
     pub(crate) ranged: InRange,
-    pub(crate) difference: u64,
+    pub(crate) difference: Option<u64>,
     ghost kept: { segment_check ranged.segment ≡ Ok tt },
-    ghost differs: { unscreened ranged.segment ≡ false → difference ≡ path_difference ranged.segment },
+    ghost differs: { difference ≡ difference_of ranged.segment },
 }

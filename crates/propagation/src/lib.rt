@@ -62,13 +62,12 @@ pub fn segment_check(s: Segment) -> Result<(), Refusal>
 fn path_step(kept: Kept) -> Path
     ensures { PathTenths kept.ranged.segment result }
 {
-    let ranged = kept.ranged;
-    if figures::is_unscreened(ranged.segment) {
-        return ground::ground_step(ranged);
-    }
-    Path {
-        tenths: screen::screen_step(kept),
-        close: false,
+    match screen::screen_step(kept) {
+        Some(tenths) => Path {
+            tenths,
+            close: false,
+        },
+        None => ground::ground_step(kept.ranged),
     }
 }
 

@@ -1,11 +1,10 @@
 // The screen step: the path difference over the screen's top, its formulas, and the loss by a wall on the far side.
-ghost use Rattle.std.specs.Prelude.{◌≡◌, true, false, ◌≤◌, ◌-ℤ◌};
+ghost use Rattle.std.specs.Prelude.{◌≡◌, true, ◌≤◌, ◌-ℤ◌};
 ghost use Rattle.decibel.specs.Round.{nearest};
 ghost use Rattle.figures.specs.Geometry.{slant, slant_square};
-ghost use Rattle.figures.specs.Rules.{unscreened};
 ghost use Rattle.figures.specs.Private.{Exactly};
-ghost use Rattle.propagation.specs.Screen.{most_shadow, path_difference, screen_formula, wall_metres, screen_fence};
-ghost use Rattle.propagation.specs.Private.{Differs, Length};
+ghost use Rattle.propagation.specs.Screen.{difference_of, most_shadow, path_difference, screen_formula, wall_metres};
+ghost use Rattle.propagation.specs.Private.{Screens, Length};
 
 use crate::kept::{InRange, Kept};
 use figures::{in_shadow, natural, slant_of};
@@ -57,13 +56,14 @@ fn path_difference(ranged: InRange) -> u64
 }
 
 // The same, taken only where there is a screen.
-pub(crate) fn difference_of(ranged: InRange) -> u64
-    ensures { Differs ranged.segment result }
+#[tactic(auto, unfolding(crate::specs::Screen::difference_of))]
+pub(crate) fn difference_of(ranged: InRange) -> Option<u64>
+    ensures { result ≡ difference_of ranged.segment }
 {
     if figures::is_unscreened(ranged.segment) {
-        return 0;
+        return None;
     }
-    path_difference(ranged)
+    Some(path_difference(ranged))
 }
 
 // The formulas, for a path difference of m.
@@ -91,16 +91,16 @@ fn wall_metres(ranged: InRange) -> u64
     (height + 5) / 10
 }
 
-// The screen, in shadow or illuminated, with the far wall's loss of 5 tenths a metre. Only a step with a loss is cut at zero.
-pub(crate) fn screen_step(kept: Kept) -> i32
-    requires { unscreened kept.ranged.segment ≡ false }
-    ensures { Exactly (nearest (screen_fence kept.ranged.segment)) result }
+// The screen where there is one, in shadow or illuminated, with the far wall's loss of 5 tenths a metre. Only a step with a loss is cut at zero.
+pub(crate) fn screen_step(kept: Kept) -> Option<i32>
+    ensures { Screens kept.ranged.segment result }
 {
+    let difference = kept.difference?;
     let ranged = kept.ranged;
-    let step = screen_by(in_shadow(ranged.segment), kept.difference);
+    let step = screen_by(in_shadow(ranged.segment), difference);
     let metres = wall_metres(ranged);
     if metres < 1 {
-        return step;
+        return Some(step);
     }
-    (step + (5 * metres) as i32).min(0)
+    Some((step + (5 * metres) as i32).min(0))
 }
