@@ -80,7 +80,7 @@ sped number segment b =
     decimal number ∷ ascii " segment " ∷ decimal segment ∷ ascii " speed " ∷ figure_of (read b.speed) ∷ ascii " rolling " ∷ figure_of (read b.rolling) ∷ ascii " vehicles " ∷ figure_of (read b.vehicles) ∷ []
 
 abbrev pub counted : TrainBreakdown → List (List ℕ)
-counted b = level b.day ∷ ascii " trains by night " ∷ level b.night ∷ []
+counted b = level b.trains.day ∷ ascii " trains by night " ∷ level b.trains.night ∷ []
 
 abbrev pub levelled : Level → Level → List (List ℕ)
 levelled day night = level day ∷ ascii " level by night " ∷ level night ∷ ascii "\n" ∷ []

@@ -67,7 +67,7 @@ train_parts b =
     figure_part (ascii " speed ") b.speed
     ++ (figure_part (ascii " rolling ") b.rolling
     ++ (figure_part (ascii " vehicles ") b.vehicles
-    ++ (level_part (ascii " trains by day ") b.day ++ level_part (ascii " trains by night ") b.night)))
+    ++ (level_part (ascii " trains by day ") b.trains.day ++ level_part (ascii " trains by night ") b.trains.night)))
 
 -- the level that a working cell (01's term) holds: one below -200 dB is silent, as -9999 is
 unfoldable pub cell_level : ℤ → Level

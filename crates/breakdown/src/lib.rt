@@ -127,8 +127,8 @@ impl fmt::Display for EntryLine {
             f,
             "train {number} segment {segment} speed {speed} rolling {rolling} vehicles {vehicles}"
         )?;
-        let by_day = Decibels(parts.day);
-        let by_night = Decibels(parts.night);
+        let by_day = Decibels(parts.trains.day);
+        let by_night = Decibels(parts.trains.night);
         write!(f, " trains by day {by_day} trains by night {by_night}")?;
         let day = Decibels(level_of(self.day));
         let night = Decibels(level_of(self.night));

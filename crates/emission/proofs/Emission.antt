@@ -19,6 +19,7 @@ use Rattle.figures.specs.declared.Train.{Train}
 use Rattle.figures.specs.declared.Period.{Period}
 use Rattle.figures.specs.declared.Period.TheVariants.{Day, Night}
 use Rattle.figures.specs.declared.Refusal.{Refusal}
+use Rattle.figures.specs.Periods.{in_period}
 use Rattle.figures.specs.Rules.{train_check}
 use Rattle.figures.specs.Bounds.{Below}
 use Rattle.figures.specs.Private.{Exactly}
@@ -30,7 +31,7 @@ use Rattle.emission.specs.Rolling.{rolling_tenths}
 use Rattle.emission.specs.Speed.{speed_fence}
 use Rattle.emission.specs.Vehicles.{vehicles_fence}
 use Rattle.emission.specs.Trains.{trains_in, sounds, trains_fence, trains_level}
-use Rattle.emission.specs.Emission.{raised, train_parts_of, no_train_parts, train_breakdown_of, trains_part, emission_of, train_fence}
+use Rattle.emission.specs.Emission.{raised, train_parts_of, no_train_parts, train_breakdown_of, emission_of, train_fence}
 use Rattle.emission.specs.Results.{SmallLevel, TrainParted, Emits}
 use Rattle.emission.specs.Private.{Runs}
 use Rattle.emission.proofs.RollingFigures.{rolling_lies}
@@ -42,7 +43,7 @@ use Rattle.std.specs.Prelude.{Ok, Err}
 -- ---- the parts
 
 abbrev made : (speed vehicles rolling : ℤ) → (day night : Level) → TrainBreakdown
-made a b c d n = record { speed = a; vehicles = b; rolling = c; day = d; night = n }
+made a b c d n = record { speed = a; vehicles = b; rolling = c; trains = record { day = d; night = n } }
 
 pub parts_are : (t : Train) {a b c : ℤ} {d n : Level} → Exactly (nearest (speed_fence t)) a → Exactly (nearest (vehicles_fence t)) b → Exactly (rolling_tenths t) c → Runs (trains_level Day t) d → Runs (trains_level Night t) n → TrainParted (train_parts_of t) (made (read a) (read b) (read c) d n)
 unfolding train_parts_of
@@ -122,11 +123,11 @@ module _ (b : TrainBreakdown) {v : TrainBreakdown} (p : TrainParted v b) where
   base_is = base_sum.is ∙ ap (λ (z : ℤ). b.speed +ℤ z) vehicles_sum.is
 
   -- as it is emitted in a period
-  pub emitted : (q : Period) (t : Train) {r : Level} → v ≡ train_breakdown_of t → Emits (raised base (trains_part q b)) r → Emits (emission_of q t) r
+  pub emitted : (q : Period) (t : Train) {r : Level} → v ≡ train_breakdown_of t → Emits (raised base (in_period q b.trains)) r → Emits (emission_of q t) r
   unfolding emission_of
   emitted q t {r} e x =
       let same : b ≡ train_breakdown_of t = p.is ∙ e in
-      record { is = x.is ∙ ap (λ (z : ℤ). raised z (trains_part q b)) base_is ∙ ap (λ (d : TrainBreakdown). raised (d.speed +ℤ (d.vehicles +ℤ d.rolling)) (trains_part q d)) same; small = x.small }
+      record { is = x.is ∙ ap (λ (z : ℤ). raised z (in_period q b.trains)) base_is ∙ ap (λ (d : TrainBreakdown). raised (d.speed +ℤ (d.vehicles +ℤ d.rolling)) (in_period q d.trains)) same; small = x.small }
 
 -- ---- near its fence
 
@@ -145,14 +146,14 @@ train_lies p t g l = lies_within (lit≤ tt) (lit≤ tt) (lies_add (lies_add (sp
 
 -- ---- what is emitted: silent, or that sum
 
-trains_part_lem : (p : Period) (t : Train) → trains_part p (train_parts_of t) ≡ trains_level p t
-unfolding trains_part train_parts_of
-trains_part_lem Day t = refl
-trains_part_lem Night t = refl
+trains_in_period : (p : Period) (t : Train) → in_period p (train_parts_of t).trains ≡ trains_level p t
+unfolding in_period train_parts_of
+trains_in_period Day t = refl
+trains_in_period Night t = refl
 
 emission_by : (p : Period) (t : Train) → train_check t ≡ Ok tt → raised (nearest (speed_fence t) +ℤ (nearest (vehicles_fence t) +ℤ rolling_tenths t)) (trains_level p t) ≡ emission_of p t
 unfolding emission_of train_parts_of
-emission_by p t e = sym (rw (sym (accepted_breakdown t e)) (ap (raised (nearest (speed_fence t) +ℤ (nearest (vehicles_fence t) +ℤ rolling_tenths t))) (trains_part_lem p t)))
+emission_by p t e = sym (rw (sym (accepted_breakdown t e)) (ap (raised (nearest (speed_fence t) +ℤ (nearest (vehicles_fence t) +ℤ rolling_tenths t))) (trains_in_period p t)))
 
 pub emits_figure : (p : Period) (t : Train) → train_check t ≡ Ok tt → sounds p t ≡ true → emission_of p t ≡ Figure (train_tenths p t)
 unfolding train_tenths raised trains_level
@@ -163,10 +164,10 @@ unfolding raised trains_level
 emits_none p t e s = sym (emission_by p t e) ∙ rw s refl
 
 pub refused_silent : (p : Period) (t : Train) {k : Refusal} → train_check t ≡ Err k → emission_of p t ≡ Silent
-unfolding emission_of no_train_parts raised trains_part
+unfolding emission_of no_train_parts raised in_period
 refused_silent p t e = rw (sym (refused_breakdown t e)) (silent p)
   where
-    silent : (q : Period) → raised (pos 0 +ℤ (pos 0 +ℤ pos 0)) (trains_part q (record { speed = pos 0; vehicles = pos 0; rolling = pos 0; day = Silent; night = Silent })) ≡ Silent
+    silent : (q : Period) → raised (pos 0 +ℤ (pos 0 +ℤ pos 0)) (in_period q (record { day = Silent; night = Silent })) ≡ Silent
     silent Day = refl
     silent Night = refl
 

@@ -7,6 +7,7 @@ use Rattle.decibel.specs.declared.Level.TheVariants.{Silent, Figure}
 use Rattle.figures.specs.declared.Train.{Train}
 use Rattle.figures.specs.declared.Period.{Period}
 use Rattle.figures.specs.declared.Period.TheVariants.{Day, Night}
+use Rattle.figures.specs.Periods.{in_period}
 use Rattle.figures.specs.Rules.{train_check}
 use Rattle.emission.specs.declared.TrainBreakdown.{TrainBreakdown}
 use Rattle.emission.specs.Rolling.{rolling_tenths}
@@ -26,12 +27,11 @@ train_parts_of t =
       speed = nearest (speed_fence t);
       vehicles = nearest (vehicles_fence t);
       rolling = rolling_tenths t;
-      day = trains_level Day t;
-      night = trains_level Night t;
+      trains = record { day = trains_level Day t; night = trains_level Night t };
     }
 
 unfoldable pub no_train_parts : TrainBreakdown
-no_train_parts = record { speed = pos 0; vehicles = pos 0; rolling = pos 0; day = Silent; night = Silent }
+no_train_parts = record { speed = pos 0; vehicles = pos 0; rolling = pos 0; trains = record { day = Silent; night = Silent } }
 
 -- for every train: nothing of a refused one
 unfoldable pub train_breakdown_of : Train → TrainBreakdown
@@ -39,12 +39,8 @@ train_breakdown_of t = cond (is_ok (train_check t)) (train_parts_of t) no_train_
 
 -- ---- the parts added
 
-unfoldable pub trains_part : Period → TrainBreakdown → Level
-trains_part Day b = b.day
-trains_part Night b = b.night
-
 unfoldable pub emission_of : Period → Train → Level
-emission_of p t = let b = train_breakdown_of t in raised (b.speed +ℤ (b.vehicles +ℤ b.rolling)) (trains_part p b)
+emission_of p t = let b = train_breakdown_of t in raised (b.speed +ℤ (b.vehicles +ℤ b.rolling)) (in_period p b.trains)
 
 -- with no step rounded
 unfoldable pub train_fence : Period → Train → ℤ

@@ -16,8 +16,8 @@ pub record TrainParted (v r : TrainBreakdown) : Type 0 where
   pub speed : Below 2000 r.speed
   pub vehicles : Below 2000 r.vehicles
   pub rolling : Below 2000 r.rolling
-  pub day : SmallLevel 2000 r.day
-  pub night : SmallLevel 2000 r.night
+  pub day : SmallLevel 2000 r.trains.day
+  pub night : SmallLevel 2000 r.trains.night
 
 -- their sum in a period
 pub record Emits (v r : Level) : Type 0 where

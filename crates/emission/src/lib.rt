@@ -23,8 +23,7 @@ pub struct TrainBreakdown {
     pub speed: i32,
     pub vehicles: i32,
     pub rolling: i32,
-    pub day: Level,
-    pub night: Level,
+    pub trains: Periods<Level>,
 }
 
 // The parts of an accepted train.
@@ -35,8 +34,10 @@ fn train_parts_of(kept: Kept) -> TrainBreakdown
         speed: speed::speed_step(kept),
         vehicles: vehicles::vehicles_step(kept),
         rolling: rolling::rolling_figure(kept),
-        day: trains::trains_level(kept, Period::Day),
-        night: trains::trains_level(kept, Period::Night),
+        trains: Periods {
+            day: trains::trains_level(kept, Period::Day),
+            night: trains::trains_level(kept, Period::Night),
+        },
     }
 }
 
@@ -50,8 +51,10 @@ pub fn train_breakdown_of(train: Train) -> TrainBreakdown
             speed: 0,
             vehicles: 0,
             rolling: 0,
-            day: Level::Silent,
-            night: Level::Silent,
+            trains: Periods {
+                day: Level::Silent,
+                night: Level::Silent,
+            },
         },
     }
 }
@@ -74,7 +77,7 @@ pub fn emissions_of(train: Train) -> Periods<Level>
     let parts = train_breakdown_of(train);
     let base = parts.speed + (parts.vehicles + parts.rolling);
     Periods {
-        day: raise(base, parts.day),
-        night: raise(base, parts.night),
+        day: raise(base, parts.trains.day),
+        night: raise(base, parts.trains.night),
     }
 }

@@ -1,7 +1,7 @@
 -- `emission::emissions_of` meets its contract.
 use mathlib.Core.Path.{refl}
 use Rattle.figures.specs.declared.Period.TheVariants.{Day, Night}
-use Rattle.emission.specs.Emission.{trains_part}
+use Rattle.figures.specs.Periods.{in_period}
 use Rattle.emission.proofs.Emission.{base_below, emitted}
 use Rattle.emission.proofs.emissions_of.Goals as goal
 
@@ -12,7 +12,7 @@ pub raise-requires-2 : goal.raise-requires-2
 raise-requires-2 c = let b = c.train_breakdown_of-parts in (base_below b.result b.ensures, b.ensures.night)
 
 pub returns : goal.returns
-unfolding trains_part
+unfolding in_period
 returns c =
     let b = c.train_breakdown_of-parts in
     let t = c.args.train in
