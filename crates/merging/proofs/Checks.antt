@@ -69,19 +69,16 @@ limits_number_lem : (l : Limits) (segments entries : ℕ) → check_number (limi
 unfolding limits_check limits_number lowest_number check_number number_of
 limits_number_lem l segments entries = simp unless_number
 
-pub limits_numbered : (l : Limits) (segments entries : ℕ) {r : Check} → r ≡ limits_check l segments entries → (r ≡ limits_check l segments entries) × (check_number r ≡ limits_number l segments entries)
-limits_numbered l segments entries e = (e, ap check_number e ∙ limits_number_lem l segments entries)
+pub limits_number_by : (l : Limits) (segments entries : ℕ) {r : Check} → r ≡ limits_check l segments entries → check_number r ≡ limits_number l segments entries
+limits_number_by l segments entries e = ap check_number e ∙ limits_number_lem l segments entries
 
 -- the same of each answer that the function gives: no file names its tests, so an edit of a test fails on the promise
 module _ (l : Limits) (segments entries : ℕ) where
   pub segments_over_number : l.segments < segments → check_number (Err SegmentLimit) ≡ limits_number l segments entries
-  segments_over_number h = (limits_numbered l segments entries (sym (segments_over l segments entries h))).1
+  segments_over_number h = limits_number_by l segments entries (sym (segments_over l segments entries h))
 
   pub entries_over_number : segments ≤ l.segments → l.entries < entries → check_number (Err EntryLimit) ≡ limits_number l segments entries
-  entries_over_number few h = (limits_numbered l segments entries (sym (entries_over l segments entries few h))).1
+  entries_over_number few h = limits_number_by l segments entries (sym (entries_over l segments entries few h))
 
   pub both_within_number : segments ≤ l.segments → entries ≤ l.entries → check_number (Ok tt) ≡ limits_number l segments entries
-  both_within_number few h = (limits_numbered l segments entries (sym (both_within l segments entries few h))).1
-
-pub limits_number_by : (l : Limits) (segments entries : ℕ) {r : Check} → r ≡ limits_check l segments entries → check_number r ≡ limits_number l segments entries
-limits_number_by l segments entries e = (limits_numbered l segments entries e).1
+  both_within_number few h = limits_number_by l segments entries (sym (both_within l segments entries few h))

@@ -2,9 +2,9 @@
 #![tactic(auto)]
 
 ghost use Rattle.std.specs.Prelude.{◌≡◌};
-ghost use Rattle.figures.specs.Refusal.{check_number};
-ghost use Rattle.study.specs.Add.{ours, added};
-ghost use Rattle.merging.specs.Merge.{limits_check, limits_number, merge_number, merged};
+ghost use Rattle.figures.specs.Refusal.{check_number, check_of};
+ghost use Rattle.study.specs.Add.{ours};
+ghost use Rattle.merging.specs.Merge.{limits_check, limits_number, merge_number, merge_answer};
 
 use figures::Refusal;
 use study::{MOST_ENTRIES, MOST_SEGMENTS, Study};
@@ -24,16 +24,17 @@ pub fn limits_check(segments: usize, entries: usize) -> Result<(), Refusal>
     Ok(())
 }
 
-// The second study's segments and entries added to the first after its own, or the refusal and the first as it was.
-#[tactic(auto, unfolding(crate::specs::Merge::merged, crate::specs::Merge::merge_check, crate::specs::Merge::merge_number, study::specs::Add::answer), using(crate::proofs::Checks::limits_number_by))]
-pub fn merge(first: &mut Study, second: &Study) -> Result<(), Refusal>
-    ensures is { added result first.new ≡ merged ours first.old second.now }
-    ensures number { check_number result ≡ merge_number ours first.old second.now }
+// A study with the first's segments and entries and after them the second's, or the refusal; both studies stay as they are.
+#[tactic(auto, unfolding(crate::specs::Merge::merge_answer, crate::specs::Merge::merged, crate::specs::Merge::merge_check, crate::specs::Merge::merge_number, study::specs::Add::answer, figures::specs::Refusal::answered, figures::specs::Refusal::check_of))]
+pub fn merge(first: &Study, second: &Study) -> Result<Study, Refusal>
+    ensures is { result ≡ merge_answer ours first.now second.now }
+    ensures number { check_number (check_of result) ≡ merge_number ours first.now second.now }
 {
     limits_check(
         first.segments().len() + second.segments().len(),
         first.entries().len() + second.entries().len(),
     )?;
-    first.append(second);
-    Ok(())
+    let mut both = first.clone().unwrap();
+    both.append(second);
+    Ok(both)
 }

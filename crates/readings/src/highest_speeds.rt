@@ -103,10 +103,9 @@ fn other_study() -> Study {
     study
 }
 
-// The first study with the second's segments and entries where there is room for them, else as it was.
-fn merged(mut first: Study, second: &Study) -> Study {
-    let _ = merging::merge(&mut first, second);
-    first
+// The study of both where there is room, else the first.
+fn merged(first: Study, second: &Study) -> Study {
+    merging::merge(&first, second).unwrap_or(first)
 }
 
 // The speed is written of a refusal too, where it must be 0.

@@ -21,16 +21,18 @@ fn far(trains: usize) -> Study {
     study
 }
 
-// Writes whether two studies are merged, how many segments and entries the first then has, and its levels in tenths.
-fn show_trial(rt: &impl Print, title: &str, mut first: Study, second: &Study) -> io::Result<()> {
+// Writes whether two studies are merged, and of the study of both, or of the first where they are not, how many segments and entries it
+// has and its levels in tenths.
+fn show_trial(rt: &impl Print, title: &str, first: &Study, second: &Study) -> io::Result<()> {
     println!(rt; "{title}")?;
-    let merged = merging::merge(&mut first, second);
+    let merged = merging::merge(first, second);
     show(rt, "merge", &merged)?;
-    let segments = first.segments().len();
-    let entries = first.entries().len();
+    let study = merged.as_ref().unwrap_or(first);
+    let segments = study.segments().len();
+    let entries = study.entries().len();
     println!(rt; "holds segments {segments} entries {entries}")?;
     let mut cells = [0i32; MOST_CELLS];
-    let answer = request::levels(&first, &mut cells);
+    let answer = request::levels(study, &mut cells);
     show(rt, "levels", &answer)?;
     let (day, night) = answer.map_or((Level::Silent, Level::Silent), |heard| {
         (heard.day.level, heard.night.level)
@@ -42,28 +44,19 @@ fn show_trial(rt: &impl Print, title: &str, mut first: Study, second: &Study) ->
 
 // 24 segments and 96 entries together, and one more of either or of both.
 fn show_limits(rt: &impl Print) -> io::Result<()> {
+    let first = near(12, 48);
     show_trial(
         rt,
         "# Merge: 24 segments and 96 entries together",
-        near(12, 48),
+        &first,
         &near(12, 48),
     )?;
-    show_trial(
-        rt,
-        "# Merge: 25 segments together",
-        near(12, 48),
-        &near(13, 1),
-    )?;
-    show_trial(
-        rt,
-        "# Merge: 97 entries together",
-        near(12, 48),
-        &near(12, 49),
-    )?;
+    show_trial(rt, "# Merge: 25 segments together", &first, &near(13, 1))?;
+    show_trial(rt, "# Merge: 97 entries together", &first, &near(12, 49))?;
     show_trial(
         rt,
         "# Merge: 25 segments and 97 entries together",
-        near(12, 48),
+        &first,
         &near(13, 49),
     )
 }
@@ -73,27 +66,27 @@ fn show_unheard(rt: &impl Print) -> io::Result<()> {
     show_trial(
         rt,
         "# Merge: a first study without an entry",
-        near(1, 0),
+        &near(1, 0),
         &far(1),
     )?;
     show_trial(
         rt,
         "# Merge: a second study without an entry",
-        far(1),
+        &far(1),
         &near(1, 0),
     )?;
     show_trial(
         rt,
         "# Merge: two studies without an entry",
-        near(1, 0),
+        &near(1, 0),
         &far(0),
     )?;
-    show_trial(rt, "# Merge: with the empty study", far(1), &Study::new())?;
-    show_trial(rt, "# Merge: to the empty study", Study::new(), &far(1))?;
+    show_trial(rt, "# Merge: with the empty study", &far(1), &Study::new())?;
+    show_trial(rt, "# Merge: to the empty study", &Study::new(), &far(1))?;
     show_trial(
         rt,
         "# Merge: the empty study twice",
-        Study::new(),
+        &Study::new(),
         &Study::new(),
     )
 }

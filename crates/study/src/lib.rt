@@ -1,7 +1,7 @@
 // A study: segments and train entries, added one after another and refused where document 01 says so.
 #![tactic(auto)]
 
-ghost use Rattle.std.specs.Prelude.{◌≡◌, ◌≤◌, length};
+ghost use Rattle.std.specs.Prelude.{◌≡◌, ◌≤◌, length, ⊤};
 ghost use Rattle.figures.specs.Refusal.{check_number, check_of};
 ghost use Rattle.study.specs.Plan.{Plan, empty_plan};
 ghost use Rattle.study.specs.Add.{ours, segment_limit, segment_answer, segment_number, segment_judgement, SegmentMarked, train_limit, train_answer, train_number, added, add_segment, add_train};
@@ -10,6 +10,7 @@ ghost use Rattle.study.specs.Run.{run_from, listed};
 use arrayvec::ArrayVec;
 use figures::{Refusal, Segment, Train};
 use propagation::Propagation;
+use std::alloc::AllocError;
 use std::marker::Model;
 
 // How many segments, and how many train entries in all, a study may hold.
@@ -90,6 +91,20 @@ impl Model for Study {
     ghost Value = { Plan };
 
     ghost view = { λ s. record { segments = s.segments.items; entries = s.entries.items } };
+}
+
+// A copy is the same plan, and making one never fails. Not derived: the contract of a derived `clone` would speak of the private fields.
+impl Clone for Study {
+    ghost is_clone = { λ study copy. copy ≡ study };
+
+    ghost is_infallible = { λ _. ⊤ };
+
+    fn clone(&self) -> Result<Self, AllocError> {
+        Ok(Study {
+            segments: self.segments.clone()?,
+            entries: self.entries.clone()?,
+        })
+    }
 }
 
 impl Study {
