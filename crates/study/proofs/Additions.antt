@@ -61,16 +61,20 @@ module _ (l : Limits) (count : ℕ) where
   unfolding segment_limit unless
   segments_room h = simp (lt-leb l.segments count h)
 
+  pub segment_fits : segment_limit l count ≡ Ok tt → count < l.segments
+  unfolding segment_limit
+  segment_fits e = leb-false l.segments count (kept_first (leb l.segments count) SegmentLimit (Ok tt) e)
+
 module _ (l : Limits) (count : ℕ) (s : Segment) where
   pub record SegmentTaken : Type 0 where
     pub room : count < l.segments
     pub kept : segment_check s ≡ Ok tt
 
   pub segment_taken : segment_answer l count s ≡ Ok tt → SegmentTaken
-  unfolding segment_answer segment_limit
+  unfolding segment_answer
   segment_taken e =
       let both = both_accept (segment_limit l count) (segment_check s) e in
-      record { room = leb-false l.segments count (kept_first (leb l.segments count) SegmentLimit (Ok tt) both.0); kept = both.1 }
+      record { room = segment_fits l count both.0; kept = both.1 }
 
 -- ---- a train: 20, then 22, then its own lines
 

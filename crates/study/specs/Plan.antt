@@ -12,7 +12,7 @@ pub record Plan : Type 0 where
 abbrev pub empty_plan : Plan
 empty_plan = record { segments = []; entries = [] }
 
--- what stands in a place that nothing was added to; no accepted segment's figures are all 0
+-- what a look past the end of a list gives; no accepted segment's figures are all 0
 abbrev pub no_segment : Segment
 no_segment =
     record { distance = pos 0; height = pos 0; mean = pos 0; soft = pos 0; view = pos 0; doubled = pos 0; screen = pos 0; setback = pos 0; top = pos 0; chart = pos 0; track = pos 0; ballast = pos 0; facade = pos 0; opposite = pos 0; wall = pos 0 }

@@ -24,7 +24,8 @@ run_from l st (a ∷ rest) = run_from l (step l st a) rest
 unfoldable pub run : Limits → List Addition → Plan
 run l additions = run_from l empty_plan additions
 
--- ---- over plain lists: the accepted ones in order, each entry with the last accepted segment before it
+-- ---- the same plan by the checks alone: the accepted ones in order, each entry with the last accepted segment before it. `run` is what the functions
+-- answer one after another; what a list of additions makes is shown by this account, and `run-accepted` (proofs/Runs.antt) shows that both are one
 
 unfoldable pub kept : Check → Plan → Plan → Plan
 kept (Ok _) old new = new

@@ -4,7 +4,7 @@
 ghost use Rattle.std.specs.Prelude.{◌≡◌, ◌≤◌, length, ⊤};
 ghost use Rattle.figures.specs.Refusal.{check_number, check_of};
 ghost use Rattle.study.specs.Plan.{Plan, empty_plan};
-ghost use Rattle.study.specs.Add.{ours, segment_limit, segment_answer, segment_number, segment_judgement, SegmentMarked, train_limit, train_answer, train_number, added, add_segment, add_train};
+ghost use Rattle.study.specs.Add.{ours, segment_limit, segment_number, segment_judgement, SegmentMarked, train_limit, train_answer, train_number, added, add_segment, add_train};
 ghost use Rattle.study.specs.Run.{run_from, listed};
 
 use arrayvec::ArrayVec;
@@ -36,24 +36,15 @@ fn segment_limit(count: usize) -> Result<(), Refusal>
     Ok(())
 }
 
-// Whether a segment may be added to so many: 21 at the limit, then its own lines.
-#[tactic(auto, unfolding(crate::specs::Add::segment_answer, figures::specs::Refusal::first_refused), using(crate::proofs::Additions::segment_answered))]
-pub fn segment_answer(count: usize, segment: Segment) -> Result<(), Refusal>
-    ensures is { result ≡ segment_answer ours count segment }
-    ensures number { check_number result ≡ segment_number ours count segment }
-{
-    segment_limit(count)?;
-    propagation::segment_check(segment)
-}
-
-// The same answer, and what the segment adds to the level of each of its entries.
+// Whether a segment may be added to so many, 21 at the limit and then its own lines, and what it adds to the level of each of its entries.
 #[tactic(auto, unfolding(crate::specs::Add::segment_judgement, crate::specs::Add::segment_answer, figures::specs::Refusal::first_refused, figures::specs::Refusal::answered, propagation::specs::Propagation::judgement_of), using(crate::proofs::Additions::judgement_number))]
 pub fn segment_judgement(count: usize, segment: Segment) -> Result<Propagation, Refusal>
     ensures is { result ≡ segment_judgement ours count segment }
     ensures allowed { SegmentMarked segment result }
     ensures number { check_number (check_of result) ≡ segment_number ours count segment }
 {
-    segment_limit(count).and_then(|()| propagation::judged(segment))
+    segment_limit(count)?;
+    propagation::judged(segment)
 }
 
 // Whether there is a segment, and so many entries leave room for one more.
@@ -121,7 +112,7 @@ impl Study {
     // Its segments in order.
     pub fn segments(&self) -> &[Segment]
         ensures is { result.now ≡ self.now.segments }
-        ensures most { length result.now ≤ 24 }
+        ensures most { length result.now ≤ ours.segments }
     {
         self.segments.as_slice()
     }
@@ -129,18 +120,19 @@ impl Study {
     // Its train entries in order, each with the place of its segment.
     pub fn entries(&self) -> &[Entry]
         ensures is { result.now ≡ self.now.entries }
-        ensures most { length result.now ≤ 96 }
+        ensures most { length result.now ≤ ours.entries }
     {
         self.entries.as_slice()
     }
 
     // Adds the segment after the last, or refuses it and leaves the study as it was.
-    #[tactic(auto, unfolding(crate::specs::Add::add_segment, crate::specs::Add::answer), using(crate::proofs::Additions::segment_taken))]
+    #[tactic(auto, unfolding(crate::specs::Add::add_segment, crate::specs::Add::segment_answer, crate::specs::Add::answer, figures::specs::Refusal::first_refused), using(crate::proofs::Additions::segment_fits, crate::proofs::Additions::segment_answered))]
     pub fn add_segment(&mut self, segment: Segment) -> Result<(), Refusal>
         ensures is { added result self.new ≡ add_segment ours self.old segment }
         ensures number { check_number result ≡ segment_number ours (length self.old.segments) segment }
     {
-        segment_answer(self.segments.len(), segment)?;
+        segment_limit(self.segments.len())?;
+        propagation::segment_check(segment)?;
         self.segments.push(segment);
         Ok(())
     }
