@@ -1,7 +1,7 @@
 -- How long numbers are at most.
 -- Assumes nothing.
 use mathlib.Core.Path.{◌≡◌, refl}
-use mathlib.Core.List.{List, ◌++◌}
+use mathlib.Core.List.{List, [], ◌∷◌, append-nil, flatten}
 use Prim.Native.Nat.{ℕ, ◌/◌, ◌%◌, ◌≤◌}
 use native.Mathlib.Omega.{arith}
 use lib.IntN.{ℤ, pos, negsuc, nat_abs}
@@ -10,8 +10,9 @@ use mir.Syntax.{w32}
 use mir.Val.{SFits, to_z, of_z}
 use mir.Facts.{to_z-of_z}
 use Rattle.std.specs.Fmt.{decimal}
-use Rattle.writing.specs.Bytes.{ascii, sign, with_tenths, figure_of}
+use Rattle.writing.specs.Bytes.{ascii, fitting, digits_of, sign, with_tenths, figure_of}
 use Rattle.writing.proofs.Digits.{digits_length, decimal_is}
+use Rattle.writing.proofs.Joining.{fits_as}
 
 sign-length : (z : ℤ) → length (sign z) ≤ 1
 unfolding sign
@@ -30,13 +31,19 @@ pub figure_length : (z : ℤ) → SFits w32 z → length (figure_of z) ≤ 12
 unfolding figure_of
 figure_length z f = simp length-append (omega (arith, sign-length z, tenths_length (nat_abs z) (size_bound z f)))
 
--- a figure, as its parts are written from what is read of it
-pub figure_is : (z : ℤ) {minus : List ℕ} {size : ℕ}
+figure_parts : (z : ℤ) → flatten (sign z ∷ digits_of (nat_abs z / 10) ∷ ascii "." ∷ digits_of (nat_abs z % 10) ∷ []) ≡ figure_of z
+unfolding figure_of with_tenths flatten
+figure_parts z = rw (append-nil (digits_of (nat_abs z % 10))) refl
+
+-- a figure, put together from its parts: there is room for all of them
+pub figure_is : (z : ℤ) {minus whole tenth : List ℕ} {size : ℕ}
     → SFits w32 z
     → minus ≡ sign (to_z w32 (of_z w32 z))
     → size ≡ nat_abs (to_z w32 (of_z w32 z))
-    → minus ++ (decimal (size / 10) ++ (ascii "." ++ decimal (size % 10))) ≡ figure_of z
-unfolding figure_of with_tenths
-figure_is z f m e =
+    → whole ≡ decimal (size / 10)
+    → tenth ≡ decimal (size % 10)
+    → fitting 12 (minus ∷ whole ∷ ascii "." ∷ tenth ∷ []) ≡ figure_of z
+figure_is z f m e w t =
     let low = size_bound z f in
-    rw (m, e, to_z-of_z f, decimal_is (nat_abs z / 10) (omega (arith, low)), decimal_is (nat_abs z % 10) (omega (arith, low))) refl
+    rw (w, t, m, e, to_z-of_z f, decimal_is (nat_abs z / 10) (omega (arith, low)), decimal_is (nat_abs z % 10) (omega (arith, low)))
+    (fits_as 12 (sign z ∷ digits_of (nat_abs z / 10) ∷ ascii "." ∷ digits_of (nat_abs z % 10) ∷ []) (figure_parts z) (figure_length z f))

@@ -1,6 +1,6 @@
 -- Words and numbers as the bytes that are written for them. A byte is its number.
 -- Assumes nothing.
-use Rattle.std.specs.Prelude.{cond, List, [], ◌∷◌, ◌++◌, ℕ, zero, suc, ◌+◌, ◌/◌, ◌%◌, ltb, ℤ, pos, negsuc, nat_abs}
+use Rattle.std.specs.Prelude.{cond, List, [], ◌∷◌, ◌++◌, ℕ, zero, suc, ◌+◌, ◌/◌, ◌%◌, ltb, ℤ, pos, negsuc, nat_abs, leb, length, ◌-◌}
 use Prim.Native.Char.{code}
 use Prim.Native.String.{String, [] as done, ◌∷◌ as ◌then◌}
 
@@ -34,3 +34,8 @@ with_tenths n = digits_of (n / 10) ++ (ascii "." ++ digits_of (n % 10))
 -- a figure in tenths
 unfoldable pub figure_of : ℤ → List ℕ
 figure_of tenths = sign tenths ++ with_tenths (nat_abs tenths)
+
+-- parts one after another, as far as there is room; from the first that has no room for all of it on, none follows, however short
+unfoldable pub fitting : ℕ → List (List ℕ) → List ℕ
+fitting room [] = []
+fitting room (part ∷ rest) = cond (leb (length part) room) (part ++ fitting (room - length part) rest) []

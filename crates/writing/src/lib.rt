@@ -1,11 +1,12 @@
-// How numbers are written, and a page of fixed memory to write on.
+// How numbers are written, and parts of a text put together, and a page of fixed memory to write on.
 #![tactic(auto)]
 
-ghost use Rattle.std.specs.Prelude.{◌≡◌, true, ◌++◌, Some, IsOk, ◌↔◌};
-ghost use Rattle.writing.specs.Bytes.{sign, figure_of};
+ghost use Rattle.std.specs.Prelude.{◌≡◌, true, ◌++◌, Some, IsOk, ◌↔◌, map};
+ghost use Rattle.writing.specs.Bytes.{fitting, sign, figure_of};
 ghost use Rattle.writing.specs.Pages.{Blank, bytes_on, room, Put};
 
 use arrayvec::ArrayString;
+use itoa::Buffer;
 use std::fmt;
 
 #[tactic(auto, unfolding(crate::specs::Bytes::sign))]
@@ -15,20 +16,42 @@ fn sign(n: i32) -> &'static str
     if n < 0 { "-" } else { "" }
 }
 
+// Parts one after another, in at most `N` bytes. One that has no room for all of it is left out, and then nothing follows it, however short.
+pub fn joined<const N: usize>(parts: &[&str]) -> ArrayString<N>
+    ensures { result.bytes ≡ fitting N (map (λ part. part.now) parts.now) }
+{
+    let mut text = ArrayString::new();
+    for part in parts {
+        if text.remaining_capacity() < part.len() {
+            return text;
+        }
+        text.push_str(part);
+    }
+    text
+}
+
 // Tenths: they are written with one decimal, and a minus if below zero.
 #[derive(Clone, Copy)]
 pub struct Tenths(pub i32);
 
-impl fmt::Display for Tenths {
-    ghost output = { λ t. Some (figure_of t.0) };
-
-    #[tactic(auto, using(crate::proofs::Lengths::figure_is))]
-    fn fmt<W: fmt::Write>(&self, f: &mut fmt::Formatter<W>) -> fmt::Result {
-        let sign = sign(self.0);
+impl Tenths {
+    // What is written of it: an i32 takes a sign, nine digits, the point and one digit at most.
+    pub fn text(self) -> ArrayString<12>
+        ensures { result.bytes ≡ figure_of self.0 }
+    {
         let size = self.0.unsigned_abs();
         let whole = size / 10;
         let tenth = size % 10;
-        write!(f, "{sign}{whole}.{tenth}")
+        let (mut before, mut after) = (Buffer::new(), Buffer::new());
+        joined(&[sign(self.0), before.format(whole), ".", after.format(tenth)])
+    }
+}
+
+impl fmt::Display for Tenths {
+    ghost output = { λ t. Some (figure_of t.0) };
+
+    fn fmt<W: fmt::Write>(&self, f: &mut fmt::Formatter<W>) -> fmt::Result {
+        f.write_str(self.text().as_str())
     }
 }
 
