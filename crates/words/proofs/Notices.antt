@@ -1,7 +1,7 @@
 -- How long what is said of a refusal is at most, and that its parts are written so.
 -- Assumes nothing.
 use mathlib.Core.Path.{◌≡◌, refl}
-use mathlib.Core.List.{List, ◌++◌, append-nil, flatten}
+use mathlib.Core.List.{List, [], ◌∷◌, append-nil, flatten}
 use Prim.Native.Nat.{ℕ, ◌<◌, ◌≤◌, ◌^◌}
 use native.Mathlib.Omega.{arith}
 use lib.ListN.{length, length-append}
@@ -9,8 +9,9 @@ use Rattle.std.specs.Fmt.{decimal}
 use Rattle.figures.specs.declared.Refusal.{Refusal}
 use Rattle.figures.specs.declared.Refusal.TheVariants.{Distance, Height, Ground, Angle, Screen, Shadow, Reading, Row, Speed, Vehicles, Trains, Form, Contents, NoSegment, SegmentLimit, EntryLimit, NoEntry, FewCells, EntryNumber, NoSpeed}
 use Rattle.figures.specs.Refusal.{number_of}
-use Rattle.writing.specs.Bytes.{ascii, digits_of}
+use Rattle.writing.specs.Bytes.{ascii, fitting, digits_of}
 use Rattle.writing.proofs.Digits.{digits_length, decimal_is}
+use Rattle.writing.proofs.Joining.{fits_as}
 use Rattle.words.specs.Words.{words_of, refused_of, notice_of}
 
 -- no refusal is above two digits, and none is told at length
@@ -50,18 +51,30 @@ pub notice_length : (r : Refusal) (line : ℕ) → line < 2 ^ 64 → length (not
 unfolding notice_of flatten
 notice_length r line h = simp (length-append, append-nil) (omega (arith, refused_length r line h, (short r).words))
 
--- ---- as their parts are written
+-- ---- put together from their parts: there is room for all of them
 
-pub refused_is : (r : Refusal) (line : ℕ) {number : ℕ}
+refused_parts : (r : Refusal) (line : ℕ) → flatten (ascii "refused " ∷ digits_of (number_of r) ∷ ascii " line " ∷ digits_of line ∷ []) ≡ refused_of r line
+unfolding refused_of
+refused_parts r line = refl
+
+pub refused_is : (r : Refusal) (line : ℕ) {number : ℕ} {told placed : List ℕ}
     → line < 2 ^ 64
     → number ≡ number_of r
-    → ascii "refused " ++ (decimal number ++ (ascii " line " ++ decimal line)) ≡ refused_of r line
-unfolding refused_of flatten
-refused_is r line h e =
-    rw (e, decimal_is (number_of r) (omega (arith, (short r).number)), decimal_is line h, append-nil (digits_of line)) refl
+    → told ≡ decimal number
+    → placed ≡ decimal line
+    → fitting 36 (ascii "refused " ∷ told ∷ ascii " line " ∷ placed ∷ []) ≡ refused_of r line
+refused_is r line h n t p =
+    rw (t, p, n, decimal_is (number_of r) (omega (arith, (short r).number)), decimal_is line h)
+    (fits_as 36 (ascii "refused " ∷ digits_of (number_of r) ∷ ascii " line " ∷ digits_of line ∷ []) (refused_parts r line) (refused_length r line h))
 
-pub notice_is : (r : Refusal) (line : ℕ) {words : List ℕ}
+notice_parts : (r : Refusal) (line : ℕ) → flatten (ascii "railnoise: " ∷ refused_of r line ∷ ascii ": " ∷ words_of r ∷ ascii "\n" ∷ []) ≡ notice_of r line
+unfolding notice_of
+notice_parts r line = refl
+
+pub notice_is : (r : Refusal) (line : ℕ) {refused words : List ℕ}
+    → line < 2 ^ 64
+    → refused ≡ refused_of r line
     → words ≡ words_of r
-    → ascii "railnoise: " ++ (refused_of r line ++ (ascii ": " ++ (words ++ ascii "\n"))) ≡ notice_of r line
-unfolding notice_of flatten
-notice_is r line e = rw e refl
+    → fitting 450 (ascii "railnoise: " ∷ refused ∷ ascii ": " ∷ words ∷ ascii "\n" ∷ []) ≡ notice_of r line
+notice_is r line h e w =
+    rw (e, w) (fits_as 450 (ascii "railnoise: " ∷ refused_of r line ∷ ascii ": " ∷ words_of r ∷ ascii "\n" ∷ []) (notice_parts r line) (notice_length r line h))

@@ -4,9 +4,12 @@
 ghost use Rattle.std.specs.Prelude.{◌≡◌, Some};
 ghost use Rattle.words.specs.Words.{words_of, refused_of, notice_of};
 
+use arrayvec::ArrayString;
 use figures::Refusal;
+use itoa::Buffer;
 use std::fmt;
 use text::Fault;
+use writing::joined;
 
 // The rule that was not kept.
 #[tactic(auto, unfolding(crate::specs::Words::words_of))]
@@ -49,14 +52,28 @@ fn words(refusal: Refusal) -> &'static str
 #[derive(Clone, Copy)]
 pub struct Refused(pub Fault);
 
+impl Refused {
+    // What is written of it: the number has at most two digits, and the line 20.
+    pub fn text(self) -> ArrayString<36>
+        ensures { result.bytes ≡ refused_of self.0.refusal self.0.line }
+    {
+        let number = u32::from(self.0.refusal);
+        let line = self.0.line;
+        let (mut before, mut after) = (Buffer::new(), Buffer::new());
+        joined(&[
+            "refused ",
+            before.format(number),
+            " line ",
+            after.format(line),
+        ])
+    }
+}
+
 impl fmt::Display for Refused {
     ghost output = { λ r. Some (refused_of r.0.refusal r.0.line) };
 
-    #[tactic(auto, using(crate::proofs::Notices::refused_is))]
     fn fmt<W: fmt::Write>(&self, f: &mut fmt::Formatter<W>) -> fmt::Result {
-        let number = u32::from(self.0.refusal);
-        let line = self.0.line;
-        write!(f, "refused {number} line {line}")
+        f.write_str(self.text().as_str())
     }
 }
 
@@ -64,13 +81,21 @@ impl fmt::Display for Refused {
 #[derive(Clone, Copy)]
 pub struct Notice(pub Fault);
 
+impl Notice {
+    // What is written of it.
+    pub fn text(self) -> ArrayString<450>
+        ensures { result.bytes ≡ notice_of self.0.refusal self.0.line }
+    {
+        let refused = Refused(self.0).text();
+        let words = words(self.0.refusal);
+        joined(&["railnoise: ", refused.as_str(), ": ", words, "\n"])
+    }
+}
+
 impl fmt::Display for Notice {
     ghost output = { λ n. Some (notice_of n.0.refusal n.0.line) };
 
-    #[tactic(auto, using(crate::proofs::Notices::notice_is))]
     fn fmt<W: fmt::Write>(&self, f: &mut fmt::Formatter<W>) -> fmt::Result {
-        let refused = Refused(self.0);
-        let words = words(self.0.refusal);
-        write!(f, "railnoise: {refused}: {words}\n")
+        f.write_str(self.text().as_str())
     }
 }
