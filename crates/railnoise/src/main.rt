@@ -36,9 +36,10 @@ fn main(rt: HostRuntime) -> io::Result<()> {
     };
     let outcome = report::report(&text[..length]);
     // The notice is written even where the report could not be.
-    let shown = rt.stdout().print(outcome);
+    let shown = rt.stdout().write_all(outcome.text().as_str().as_bytes());
     if let Err(fault) = outcome.0 {
-        rt.stderr().print(Notice(fault))?;
+        rt.stderr()
+            .write_all(Notice(fault).text().as_str().as_bytes())?;
     }
     shown
 }

@@ -17,10 +17,6 @@ use Rattle.report.specs.Bytes.{level, verdict}
 unfoldable pub result_parts : PeriodResult → List (List ℕ)
 result_parts r = level r.level ∷ ascii " " ∷ digits_of r.close ∷ ascii " " ∷ verdict r.met ∷ []
 
--- and these as one
-unfoldable pub result_line : PeriodResult → List ℕ
-result_line r = flatten (result_parts r)
-
 -- a period's line: its name with a space, and these
 unfoldable pub period_parts : List ℕ → PeriodResult → List (List ℕ)
 period_parts name r = name ∷ (result_parts r ++ (ascii "\n" ∷ []))

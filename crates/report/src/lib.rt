@@ -3,32 +3,40 @@
 
 ghost use Rattle.std.specs.Prelude.{◌≡◌, Some};
 ghost use Rattle.report.specs.Bytes.{level, verdict};
-ghost use Rattle.report.specs.Report.{result_line, written, Reported};
+ghost use Rattle.report.specs.Private.{result_line};
+ghost use Rattle.report.specs.Report.{written, Reported};
 
+use arrayvec::ArrayString;
 use decibel::Level;
 use figures::Periods;
+use itoa::Buffer;
 use request::{MOST_CELLS, PeriodResult};
 use std::fmt;
 use text::Fault;
 use words::Refused;
-use writing::Tenths;
+use writing::{Tenths, joined};
 
 // A level: it is written as its figure, or as `silent`.
 #[derive(Clone, Copy)]
 pub struct Decibels(pub Level);
 
+impl Decibels {
+    // What is written of it.
+    pub fn text(self) -> ArrayString<12>
+        ensures { result.bytes ≡ level self.0 }
+    {
+        match self.0 {
+            Level::Silent => joined(&["silent"]),
+            Level::Figure(tenths) => Tenths(tenths).text(),
+        }
+    }
+}
+
 impl fmt::Display for Decibels {
     ghost output = { λ d. Some (level d.0) };
 
-    #[tactic(auto, using(crate::proofs::Lines::silent_is, crate::proofs::Lines::figure_is))]
     fn fmt<W: fmt::Write>(&self, f: &mut fmt::Formatter<W>) -> fmt::Result {
-        match self.0 {
-            Level::Silent => f.write_str("silent"),
-            Level::Figure(tenths) => {
-                let figure = Tenths(tenths);
-                write!(f, "{figure}")
-            }
-        }
+        f.write_str(self.text().as_str())
     }
 }
 
@@ -40,41 +48,54 @@ fn verdict(met: bool) -> &'static str
 }
 
 // A period's level, close count and verdict.
-#[derive(Clone, Copy)]
-struct Line(PeriodResult);
-
-impl fmt::Display for Line {
-    ghost output = { λ l. Some (result_line l.0) };
-
-    #[tactic(auto, using(crate::proofs::Lines::result_is))]
-    fn fmt<W: fmt::Write>(&self, f: &mut fmt::Formatter<W>) -> fmt::Result {
-        let level = Decibels(self.0.level);
-        let close = self.0.close;
-        let verdict = verdict(self.0.met);
-        write!(f, "{level} {close} {verdict}")
-    }
+fn result_text(period: PeriodResult) -> ArrayString<27>
+    ensures { result.bytes ≡ result_line period }
+{
+    let level = Decibels(period.level).text();
+    let mut close = Buffer::new();
+    joined(&[
+        level.as_str(),
+        " ",
+        close.format(period.close),
+        " ",
+        verdict(period.met),
+    ])
 }
 
 // What a text comes to: it is written as the results' lines, or as what was refused at which line.
 #[derive(Clone, Copy)]
 pub struct Outcome(pub Result<Periods<PeriodResult>, Fault>);
 
+impl Outcome {
+    // What is written of it.
+    pub fn text(self) -> ArrayString<96>
+        ensures { result.bytes ≡ written self }
+    {
+        match self.0 {
+            Ok(results) => {
+                let day = result_text(results.day);
+                let night = result_text(results.night);
+                joined(&[
+                    "period level close met\nday ",
+                    day.as_str(),
+                    "\nnight ",
+                    night.as_str(),
+                    "\n",
+                ])
+            }
+            Err(fault) => {
+                let refused = Refused(fault).text();
+                joined(&[refused.as_str(), "\n"])
+            }
+        }
+    }
+}
+
 impl fmt::Display for Outcome {
     ghost output = { λ r. Some (written r) };
 
-    #[tactic(auto, using(crate::proofs::Lines::answer_is, crate::proofs::Lines::refusal_is))]
     fn fmt<W: fmt::Write>(&self, f: &mut fmt::Formatter<W>) -> fmt::Result {
-        match self.0 {
-            Ok(results) => {
-                let day = Line(results.day);
-                let night = Line(results.night);
-                write!(f, "period level close met\nday {day}\nnight {night}\n")
-            }
-            Err(fault) => {
-                let refused = Refused(fault);
-                write!(f, "{refused}\n")
-            }
-        }
+        f.write_str(self.text().as_str())
     }
 }
 
