@@ -46,27 +46,6 @@ UNCITED = {
     "factor_high": "for the fine level of a change request: what a factor takes off at most",
 }
 
-# Lemmas, by file, that answered a goal which the check finds by itself since the port: the port dropped nothing.
-SPARE = {
-    "crates/emission/proofs/Emission.antt": "vehicles_fit base_fit",
-    "crates/emission/proofs/SpeedStep.antt": "speed_fits",
-    "crates/figures/proofs/Signs.antt": "below_zero not_below wide_abs_fits wide_sum cast_fits",
-    "crates/figures/proofs/Squares.antt": "square_cast",
-    "crates/lines/proofs/Bytes.antt": "sought_none",
-    "crates/lines/proofs/Digits.antt": "passed_none below_four",
-    "crates/lines/proofs/Entries.antt": "count_fits still_exceeded",
-    "crates/propagation/proofs/AngleStep.antt": "product_fits quotient_fits angle_fits",
-    "crates/propagation/proofs/OppositeStep.antt": "opposite_fits",
-    "crates/propagation/proofs/ScreenStep.antt": "depth_fits rise_fits",
-    "crates/propagation/proofs/SegmentSum.antt": "path_fits",
-    "crates/propagation/proofs/WallLoss.antt": "wall_most",
-    "crates/request/proofs/Counts.antt": "none_yet none_more none_all",
-    "crates/request/proofs/Found.antt": "filled_none filled_more",
-    "crates/study/proofs/Remaining.antt": "at_first_entry",
-    "crates/text/proofs/Steps.antt": "fault_line segment_unread train_unread",
-    "crates/text/proofs/Worked.antt": "held_places",
-}
-
 FUNCTION = re.compile(
     r"""^(?P<indent>[ \t]*)(?P<public>pub[ ])?(?:pub\(crate\)[ ])?(?:extern[ ]"C"[ ])?fn[ ](?P<name>\w+)
         (?P<head>.*?)\{\n(?P<body>.*?)^(?P=indent)\}$""",
@@ -209,7 +188,7 @@ def idle_names():
     pages = "\n".join(path.read_text() for path in files(["README.md", "docs/*.md"]))
     yield from citations.unused_imports(sources)
     for path, name in citations.uncited_definitions(sources, pages):
-        if name not in UNCITED and name not in SPARE.get(pathlib.PurePath(path).as_posix(), "").split():
+        if name not in UNCITED:
             yield f"{path}: nothing cites {name}"
 
 

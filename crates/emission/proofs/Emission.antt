@@ -98,17 +98,11 @@ module _ {d x : ℤ} {l : Level} (e : l ≡ Figure x) (a : Below 8000 d) (b : Sm
 
 -- what does not depend on the period
 module _ (b : TrainBreakdown) {v : TrainBreakdown} (p : TrainParted v b) where
-  pub vehicles_fit : SFits w32 (read b.vehicles +ℤ read b.rolling)
-  vehicles_fit = summand p.vehicles p.rolling (lit≤ tt)
-
   abbrev pub pair : ℤ
   pair = read b.vehicles +ℤ read b.rolling
 
   vehicles_sum : Sum 4000 b.vehicles b.rolling pair
   vehicles_sum = added p.vehicles p.rolling (lit≤ tt)
-
-  pub base_fit : SFits w32 (read b.speed +ℤ read pair)
-  base_fit = summand {x = b.speed} {y = pair} p.speed vehicles_sum.small (lit≤ tt)
 
   abbrev pub base : ℤ
   base = read (read b.speed +ℤ read pair)

@@ -7,8 +7,6 @@ use native.Mathlib.Omega.{arith}
 use lib.Dec.{lit<, lit≤}
 use lib.IntN.{ℤ, pos, ◌+ℤ◌}
 use lib.Signed.{◌≤ℤ◌}
-use mir.Syntax.{w32}
-use mir.Val.{SFits}
 use Rattle.decibel.specs.Ints.{up}
 use Rattle.decibel.specs.Log.{AtLeast, fence}
 use Rattle.decibel.specs.Lookup.{ten_log, fence_at, lowest, highest, tenths_at, Tenth}
@@ -20,7 +18,7 @@ use Rattle.figures.specs.declared.Train.{Train}
 use Rattle.figures.specs.Rules.{most_speed}
 use Rattle.figures.specs.Private.{Exactly}
 use Rattle.figures.proofs.Ranged.{Signed, TrainRanged}
-use Rattle.figures.proofs.Signs.{read, below_more, natural_below, summand, summed}
+use Rattle.figures.proofs.Signs.{read, below_more, natural_below, summed}
 use Rattle.figures.proofs.Tenths.{tenth_below, tenths_of_lem}
 use Rattle.figures.proofs.Lies.{lies_fence}
 use Rattle.emission.specs.Speed.{least_counted, counted_speed, speed_fence}
@@ -47,9 +45,6 @@ unfolding micro
 speed_square v h = fence_square 31200000 10000000 v h ∙ sym (fence-add 31200000 0 10000000 (v * v) 1)
 
 module _ (t : Train) (g : TrainRanged t) {n : ℕ} (e : n ≡ counted_speed t) {x : ℤ} (a : Tenth (tenths_at ten_log (n * n)) x) where
-  pub speed_fits : SFits w32 (read (pos 312) +ℤ read x)
-  speed_fits = summand {m = 313} {x = pos 312} (natural_below (lit< tt)) (tenth_below a) (lit≤ tt)
-
   pub speed_is : Exactly (nearest (speed_fence t)) (read (read (pos 312) +ℤ read x))
   unfolding speed_fence fence_at lowest highest
   speed_is =

@@ -1,43 +1,27 @@
 -- Signed figures over plain values: as natural numbers, as they are written and read back, and added.
 -- Assumes nothing.
 use mathlib.Core.Path.{◌≡◌, refl, sym, ◌∙◌, ap, ap₂, subst}
-use mathlib.Core.Bool.{true, false}
 use Prim.Native.Nat.{ℕ, ◌+◌, ◌^◌, ◌≤◌, ◌<◌}
 use native.Mathlib.Nat.{lt_of_lt_of_le}
 use native.Mathlib.Omega.{arith}
 use lib.Dec.{T, lit≤}
 use lib.IntN.{ℤ, pos, negsuc, neg_ℤ, ◌+ℤ◌, ◌-ℤ◌, nat_abs}
-use lib.Signed.{mag, lt_z, non_neg}
-use mir.Syntax.{w32, w64}
-use mir.Val.{Fits, SFits, to_z, of_z}
+use lib.Signed.{mag, non_neg}
+use mir.Syntax.{w32}
+use mir.Val.{SFits, to_z, of_z}
 use mir.Facts.{to_z_pos}
-use borrow.Author.Tests.{ltb-true}
 use Rattle.decibel.specs.Ints.{up, dn}
 use Rattle.decibel.proofs.Ints.{add_most, neg_is, mag_most, most_mag}
 use Rattle.decibel.proofs.Words.{back}
 use Rattle.figures.specs.Bounds.{Below}
 use Rattle.figures.specs.Private.{Exactly}
 use Rattle.figures.proofs.Ranged.{From, Signed}
-use Rattle.figures.specs.Rules.{least_gap}
 
 -- ---- a signed figure as a natural number
-
-pub below_zero : (a : ℤ) → lt_z a (pos 0) ≡ true → 0 ≡ up a
-below_zero (pos n) e = let x : ⊥ = omega (arith, ltb-true n 0 e) in absurd x
-below_zero (negsuc n) e = refl
-
-pub not_below : (a : ℤ) → lt_z a (pos 0) ≡ false → T (non_neg a)
-not_below (pos n) e = tt
-not_below (negsuc n) e = subst T e tt
 
 pub abs_up : (a : ℤ) → T (non_neg a) → nat_abs a ≡ up a
 abs_up (pos n) t = refl
 abs_up (negsuc n) t = absurd t
-
--- what a number of 64 bits is cast to
-pub wide_abs_fits : (a : ℤ) → mag a < 2 ^ 63 → Fits w64 (nat_abs a)
-wide_abs_fits (pos n) h = omega arith
-wide_abs_fits (negsuc n) h = omega arith
 
 -- ---- sums and differences fit, and are read back
 
@@ -51,9 +35,6 @@ size (negsuc n) h = omega arith
 
 pub sum_fits : (a b : ℤ) → Below 1000000 a → Below 1000000 b → SFits w32 (a +ℤ b)
 sum_fits a b s t = record { sfits = omega (arith, mag_most (a +ℤ b), add_most a b, s.most, s.least, t.most, t.least) }
-
-pub wide_sum : (a : ℤ) → SFits w32 a → SFits w64 (a +ℤ pos least_gap)
-wide_sum a f = record { sfits = omega (arith, mag_most (a +ℤ pos least_gap), add_most a (pos least_gap), size a f.sfits) }
 
 pub below_back : {z : ℤ} → Below 1000000 z → read z ≡ z
 below_back {z} b = back z (omega (arith, mag_most z, b.most, b.least))
@@ -76,9 +57,6 @@ signed_below h l f = record { most = omega (arith, f.most); least = omega (arith
 -- a natural number as it is cast to a signed one
 pub cast_read : (n : ℕ) → n < 1000000 → to_z w32 n ≡ pos n
 cast_read n h = to_z_pos w32 {n = n} (omega arith)
-
-pub cast_fits : (n : ℕ) → n < 1000000 → SFits w32 (pos n)
-cast_fits n h = record { sfits = omega arith }
 
 -- a natural number from a figure that was read
 pub read_up : {a b n : ℕ} {z : ℤ} → b < 1000000 → From a b z → n ≡ up (read z) → n ≡ up z

@@ -7,8 +7,6 @@ use native.Mathlib.Omega.{arith}
 use lib.Dec.{T}
 use lib.IntN.{ℤ, pos, negsuc, ◌*ℤ◌, nat_abs}
 use lib.Signed.{mag, non_neg}
-use mir.Syntax.{w64}
-use mir.Val.{Fits}
 use Rattle.decibel.specs.Ints.{up, dn}
 use Rattle.figures.specs.Geometry.{squared, slant}
 use Rattle.figures.specs.Private.{Square}
@@ -29,13 +27,6 @@ square_abs a = abs_up (a *ℤ a) (square_nonneg a)
 
 square_small : (a : ℤ) → mag a < 2 ^ 31 → squared a < 4700000000000000000
 square_small a h = let l : up a + dn a ≤ 2147483648 = size a h in omega (arith, squared_is a, mul-le-mul l l)
-
--- what a square is cast to
-pub square_cast : (a : ℤ) {p : ℤ} → mag a < 2 ^ 31 → p ≡ a *ℤ a → T (non_neg p) × Fits w64 (nat_abs p)
-square_cast a {p} h e =
-    let small : squared a < 4700000000000000000 = square_small a h in
-    let fits : Fits w64 (nat_abs (a *ℤ a)) = rw (square_abs a) (omega arith) in
-    rw e (square_nonneg a, fits)
 
 pub square_of : (a : ℤ) {p : ℤ} → mag a < 2 ^ 31 → p ≡ a *ℤ a → Square a (nat_abs p)
 square_of a h e =

@@ -53,16 +53,10 @@ pub record Passed (words : List ℕ) (v i : ℕ) : Type 0 where
   pub ends : length (word words 0) ≡ i + length (word words i)
   pub left : past 32 words ≡ past 32 (drop i words)
 
-pub passed_none : (words : List ℕ) → Passed words 0 0
-passed_none words = record { few = omega arith; small = lit< tt; digits = refl; ends = omega arith; left = refl }
-
 module _ {words : List ℕ} {v i : ℕ} (r : Passed words v i) where
   -- a value of five digits, and one before the fifth
   below_five : v < 100000
   below_five = lt_of_lt_of_le r.small (pow-le-pow_right {n = 10} (lit< tt) {j = 5} r.few)
-
-  pub below_four : i < 5 → v < 10000
-  below_four l = lt_of_lt_of_le r.small (pow-le-pow_right {n = 10} (lit< tt) {j = 4} (omega arith))
 
   signed_fits : SFits w32 (pos v)
   signed_fits = record { sfits = omega (arith, below_five) }

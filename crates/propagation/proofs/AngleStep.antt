@@ -7,7 +7,7 @@ use native.Mathlib.Omega.{arith}
 use lib.Dec.{lit<, lit≤}
 use lib.IntN.{ℤ, pos, negsuc, neg_ℤ, ◌+ℤ◌, ◌-ℤ◌, ◌*ℤ◌}
 use lib.Signed.{mag, quot_z}
-use mir.Syntax.{w32, w64}
+use mir.Syntax.{w64}
 use mir.Val.{SFits, to_z, of_z}
 use mir.Facts.{to_z-of_z, to_z_pos}
 use Rattle.decibel.specs.Ints.{up, dn}
@@ -23,7 +23,7 @@ use Rattle.decibel.proofs.Fences.{fence_shift}
 use Rattle.figures.specs.declared.Segment.{Segment}
 use Rattle.figures.specs.Private.{Exactly}
 use Rattle.figures.proofs.Ranged.{Ranged}
-use Rattle.figures.proofs.Signs.{read, below_more, read_up, less, less_fits}
+use Rattle.figures.proofs.Signs.{read, below_more, read_up, less}
 use Rattle.figures.proofs.Tenths.{tenth_below, tenths_of_lem}
 use Rattle.figures.proofs.Lies.{fence_less}
 use Rattle.propagation.specs.Angle.{y_of, angle_fence}
@@ -63,12 +63,6 @@ module _ (view : ℕ) (p q : ℤ) (h : view ≤ 180) (f : mag p < 2000000000) (g
       y_bound : (n : ℕ) (w : ℤ) → n ≤ 3141592654 → (up w ≤ 4000000000) × (dn w ≤ 4000000001) → mag (pos n -ℤ w) < 20000000000
       y_bound n w a b = omega (arith, mag_most (pos n -ℤ w), add_most (pos n) (neg_ℤ w), neg_is w)
 
-  pub product_fits : SFits w64 (wide p *ℤ wide q)
-  product_fits = rw sines_read (record { sfits = lt_of_le_of_lt product_small (lit< tt) })
-
-  pub quotient_fits : SFits w64 (quot_z (wide (wide p *ℤ wide q)) (pos 1000000000))
-  quotient_fits = rw quotient_read (record { sfits = omega (arith, quotient_small) })
-
   abbrev written : ℤ
   written = to_z w64 (3141592654 * view / 180) -ℤ wide (quot_z (wide (wide p *ℤ wide q)) (pos 1000000000))
 
@@ -105,9 +99,6 @@ angle_nearest y {r} p e =
     (omega (arith, ints, b.1, tie_is (r +ℤ pos 1), add_is r (pos 1), tie_is (x +ℤ pos 1), add_is x (pos 1), add_is f (negsuc 4999999)))
 
 module _ {s : Segment} (g : Ranged s) {n : ℕ} {x : ℤ} (e : n ≡ up (y_of (up s.view) (up s.doubled))) (a : Tenth (tenths_at ten_log n) x) where
-  pub angle_fits : SFits w32 (read x -ℤ pos 950)
-  angle_fits = less_fits 950 (tenth_below a) (lit≤ tt)
-
   pub angle_is : Exactly (nearest (angle_fence s)) (read (read x -ℤ pos 950))
   unfolding fence_at lowest highest angle_fence
   angle_is =

@@ -47,9 +47,6 @@ module _ {s : Segment} (g : Ranged s) (q : ReadingsRanged s) {o : ℕ} (e : o �
   opposite_read : o ≡ up s.opposite
   opposite_read = read_up (omega (arith, g.view.most)) q.opposite e
 
-  pub opposite_fits : Fits w64 (1500000 * o)
-  opposite_fits = omega (arith, opposite_read, q.opposite.most, g.view.most)
-
   module _ {v : ℕ} (f : v ≡ up (read s.view)) where
     view_read : v ≡ up s.view
     view_read = read_up (lit< tt) g.view f

@@ -132,9 +132,6 @@ short_fits (negsuc n) b = record { sfits = omega (arith, b.least) }
 
 -- four numbers, the last two first
 module _ {m : ℕ} {a b c d : ℤ} (ta : Below 2000 a) (tb : Below 2000 b) (tc : Below 2000 c) (td : Below m d) (h : m + 6000 ≤ 100000) where
-  pub first_fits : SFits w32 (read c +ℤ read d)
-  first_fits = summand tc td (omega arith)
-
   abbrev first : ℤ
   first = read c +ℤ read d
 
@@ -170,9 +167,6 @@ module _ {m : ℕ} {a b c d : ℤ} (ta : Below 2000 a) (tb : Below 2000 b) (tc :
 
 -- all of them, the readings first
 module _ {b : SegmentBreakdown} (q : PartsBelow b) {e : ℤ} (r : FourAdded 8000 b.facade b.chart b.track b.ballast e) where
-  pub path_fits : SFits w32 (read b.path +ℤ read e)
-  path_fits = first_fits q.angle q.opposite q.path r.small (lit≤ tt)
-
   pub opposite_fits : SFits w32 (read b.opposite +ℤ read (read b.path +ℤ read e))
   opposite_fits = second_fits q.angle q.opposite q.path r.small (lit≤ tt)
 

@@ -18,7 +18,6 @@ use Rattle.decibel.specs.Round.{micro, tie, nearest, IsFence, IsNearest}
 use Rattle.decibel.proofs.Ints.{add_is, add_most, neg_is, from_parts, ints}
 use Rattle.decibel.proofs.Round.{micro_is, tie_is, nearest-between, nearest_is, nearest_plus, nearest_exact}
 use Rattle.figures.specs.declared.Segment.{Segment}
-use Rattle.figures.specs.Rules.{highest_wall}
 use Rattle.figures.specs.Bounds.{Below}
 use Rattle.figures.specs.Private.{Exactly}
 use Rattle.figures.proofs.Ranged.{Signed, Ranged}
@@ -141,9 +140,6 @@ lies_reduced (suc k) {f} a =
 module _ {s : Segment} (g : Ranged s) {n : ℕ} (e : n ≡ up (read s.wall)) where
   wall_read : up s.wall ≡ n
   wall_read = sym (read_up (lit< tt) g.wall e)
-
-  pub wall_most : n ≤ highest_wall
-  wall_most = omega (arith, wall_read, g.wall.most)
 
   pub low_wall : n < 15 → 0 ≡ wall_metres s
   unfolding wall_metres
