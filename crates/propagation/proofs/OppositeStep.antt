@@ -7,8 +7,8 @@ use native.Mathlib.Omega.{arith}
 use lib.Dec.{lit<, lit≤}
 use lib.IntN.{ℤ, pos, negsuc, ◌*ℤ◌}
 use lib.Signed.{◌≤ℤ◌}
-use mir.Syntax.{w32, w64}
-use mir.Val.{Fits, SFits, to_z}
+use mir.Syntax.{w32}
+use mir.Val.{SFits, to_z}
 use Rattle.decibel.specs.Ints.{up, dn}
 use Rattle.decibel.specs.Round.{nearest, IsFence, IsNearest}
 use Rattle.decibel.proofs.Ints.{mul_is, le_is, ints}
