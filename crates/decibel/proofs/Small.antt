@@ -17,6 +17,7 @@ use Rattle.small_logs.specs.Lists.{small_log_list, twenty_log_list}
 use Rattle.small_logs.proofs.Arrays.{small_log_is, twenty_log_is}
 use Rattle.decibel.specs.Greatest.{clamp}
 use Rattle.decibel.specs.Round.{nearest}
+use Rattle.decibel.specs.Fine.{most_number}
 use Rattle.decibel.specs.Lookup.{ten_log, fence_at, lowest, highest, tenths_at, Tenth}
 use Rattle.decibel.proofs.Tests.{reaches, both, Values}
 use Rattle.decibel.proofs.Ints.{sub_is, from_parts}
@@ -35,7 +36,7 @@ near_tenth n x = both (reaches_tie n x) (not (reaches_tie n (suc x)))
 
 -- entry i is the tenth of f i, of 0 that of 1, and small
 abbrev log_test : (ℕ → ℕ) → ℕ → ℕ → Bool
-log_test f i x = both (ltb x 1000) (near_tenth (clamp 1 3200000000 (f i)) x)
+log_test f i x = both (ltb x 1000) (near_tenth (clamp 1 most_number (f i)) x)
 
 near_decides : (n x : ℕ) → T (ltb 0 n) → T (near_tenth n x) → nearest (fence_at ten_log n) ≡ pos x
 unfolding fence_at
@@ -52,8 +53,8 @@ TenthOf n x = (pos x ≡ tenths_at ten_log n) × (x < 1000)
 log_right : (f : ℕ → ℕ) (i x : ℕ) → T (log_test f i x) → TenthOf (f i) x
 unfolding tenths_at lowest highest
 log_right f i x t =
-    let n = clamp 1 3200000000 (f i) in
-    let p : 0 < n = omega (arith, clamp-within 1 3200000000 (f i) (lit≤ tt)) in
+    let n = clamp 1 most_number (f i) in
+    let p : 0 < n = omega (arith, clamp-within 1 most_number (f i) (lit≤ tt)) in
     (sym (near_decides n x (lt→ltb 0 n p) (both_right (ltb x 1000) (near_tenth n x) t)), ltb→lt x 1000 (both_left (ltb x 1000) (near_tenth n x) t))
 
 small_rule : Values TenthOf 200 SMALL_LOG
@@ -76,8 +77,8 @@ square_read v h e = handed (v * v) (square_rule.rule v h) e
 
 -- ---- a number cut down to 60,000, whose square is beyond the range
 
-square_over : (n : ℕ) → 60000 ≤ n → 3200000000 ≡ clamp 1 3200000000 (n * n)
-square_over n h = let m : 3600000000 ≤ n * n = mul-le-mul h h in clamp_over 1 3200000000 (n * n) (omega arith) (omega arith)
+square_over : (n : ℕ) → 60000 ≤ n → most_number ≡ clamp 1 most_number (n * n)
+square_over n h = let m : 3600000000 ≤ n * n = mul-le-mul h h in clamp_over 1 most_number (n * n) (omega arith) (omega arith)
 
 module _ (v : ℕ) {x : ℕ} (e : x ≡ min v 60000) where
   pub square_fits : Fits w64 (x * x)

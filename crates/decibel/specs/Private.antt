@@ -1,8 +1,9 @@
--- What only private functions cite: a number's place in a list of thresholds.
+-- What only private functions cite: a number brought to a large one, and its place in a list of thresholds.
 -- Assumes nothing.
-use Rattle.std.specs.Prelude.{◌≡◌, List, ℕ, ◌+◌, ◌-◌, ◌≤◌, ◌<◌, length, get_or, ℤ, pos}
+use Rattle.std.specs.Prelude.{◌≡◌, List, ℕ, ◌+◌, ◌-◌, ◌*◌, ◌^◌, ◌≤◌, ◌<◌, length, get_or, ℤ, pos}
 use Rattle.std.specs.List.Sorted.{IsNonDecreasing}
 use Rattle.decibel.specs.Ints.{up}
+use Rattle.decibel.specs.Fine.{tenfolds_of}
 
 -- n is at least the first entry and below the last
 pub record Within (xs : List ℕ) (n : ℕ) : Type 0 where
@@ -34,3 +35,8 @@ pub record Between (xs : List ℕ) (n r : ℕ) : Type 0 where
 pub record Placed (xs : List ℕ) (n : ℕ) (r : ℤ) : Type 0 where
   pub whole : r ≡ pos (up r)
   pub between : Between xs n (up r)
+
+-- n brought to a large number by e tenfolds
+pub record Scaled (n number e : ℕ) : Type 0 where
+  pub tenfolds : e ≡ tenfolds_of n
+  pub large : number ≡ n * 10 ^ tenfolds_of n

@@ -3,4 +3,4 @@ use Rattle.decibel.proofs.FineTable.{fine_log_accurate}
 use Rattle.decibel.proofs.fine_log.Goals as goal
 
 pub returns-clause-accurate : goal.returns-clause-accurate
-returns-clause-accurate c = fine_log_accurate _ c.clamp.ensures c.scaled-s.ensures.is c.fine_large.ensures c.saturating_sub.ensures
+returns-clause-accurate c = fine_log_accurate _ c.scaled-s.ensures c.fine_large.ensures c.saturating_sub.ensures

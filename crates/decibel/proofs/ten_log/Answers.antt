@@ -6,7 +6,7 @@ use Rattle.decibel.proofs.Lookup.{ten_log_read}
 use Rattle.decibel.proofs.ten_log.Goals as goal
 
 pub place-requires : goal.place-requires
-place-requires c = let l = c.scaled-s.ensures.large in sought decade_rule.fits (lit< tt) (lit< tt) l.0 l.1
+place-requires c = let l = c.scaled-s.result.large in sought decade_rule.fits (lit< tt) (lit< tt) l.0 l.1
 
 pub returns : goal.returns
-returns c = ten_log_read _ c.clamp.ensures c.scaled-s.ensures.is c.place.ensures
+returns c = ten_log_read _ c.scaled-s.ensures c.place.ensures
