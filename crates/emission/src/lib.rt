@@ -18,7 +18,7 @@ use figures::{Period, Periods, Train};
 use kept::Kept;
 
 // What each step of a train adds, in tenths: the trains step by period, silent where it does not run.
-#[derive(Clone, Copy)]
+#[derive(Clone, Copy, Default)]
 pub struct TrainBreakdown {
     pub speed: i32,
     pub vehicles: i32,
@@ -42,20 +42,13 @@ fn train_parts_of(kept: Kept) -> TrainBreakdown
 }
 
 // The parts of a train; nothing of a refused one.
+#[tactic(auto, using(crate::proofs::Emission::accepted_parts, crate::proofs::Emission::refused_parts))]
 pub fn train_breakdown_of(train: Train) -> TrainBreakdown
     ensures { TrainParted (train_breakdown_of train) result }
 {
     match train_check(train) {
         Ok(()) => train_parts_of(Kept { train }),
-        Err(_) => TrainBreakdown {
-            speed: 0,
-            vehicles: 0,
-            rolling: 0,
-            trains: Periods {
-                day: Level::Silent,
-                night: Level::Silent,
-            },
-        },
+        Err(_) => TrainBreakdown::default(),
     }
 }
 

@@ -63,7 +63,7 @@ pub enum Period {
 }
 
 // What there is of each period.
-#[derive(Clone, Copy)]
+#[derive(Clone, Copy, Default)]
 pub struct Periods<T> {
     pub day: T,
     pub night: T,
