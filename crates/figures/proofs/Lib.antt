@@ -6,3 +6,4 @@ pub mod Kept
 pub mod Numbers
 pub mod Tenths
 pub mod Lies
+pub mod Same

@@ -45,7 +45,7 @@ pub struct Segment {
     pub wall: i32,
 }
 
-// A train entry: row of Table A1.1, speed in km/h, vehicles, and trains by day and by night.
+// A train entry as document 01 numbers its fields: row of Table A1.1, speed in km/h, vehicles, and trains by day and by night.
 #[derive(Clone, Copy, Default)]
 pub struct Train {
     pub row: i32,
@@ -164,7 +164,7 @@ pub fn check_number(check: Result<(), Refusal>) -> u32
     }
 }
 
-// Whether x is from low to high.
+// Whether x is from low to high: `contains` of std, promised in the word of the rules.
 pub fn in_range(low: i32, high: i32, x: i32) -> bool
     ensures { result ≡ within low high x }
 {
@@ -209,5 +209,5 @@ pub fn in_shadow(s: Segment) -> bool
 pub fn is_unscreened(s: Segment) -> bool
     ensures { result ≡ unscreened s }
 {
-    in_range(0, 0, s.screen)
+    s.screen == 0
 }

@@ -83,8 +83,7 @@ fn angles_kept(s: Segment) -> bool
 fn unscreened_kept(s: Segment) -> bool
     ensures { result ≡ unscreened_kept s }
 {
-    in_range(0, 0, s.setback)
-        & (in_range(0, 0, s.top) & (in_range(0, 0, s.chart) & in_range(0, 0, s.wall)))
+    (s.setback == 0) & ((s.top == 0) & ((s.chart == 0) & (s.wall == 0)))
 }
 
 // A number and the gap more, in 64 bits.
@@ -107,8 +106,7 @@ fn screened_kept(s: Segment, most: i32) -> bool
 {
     stands_between(s)
         & (in_range(LOWEST_TOP, HIGHEST_TOP, s.top)
-            & (in_range(0, most, s.chart)
-                & (in_range(0, HIGHEST_WALL, s.wall) & in_range(0, 0, s.ballast))))
+            & (in_range(0, most, s.chart) & (in_range(0, HIGHEST_WALL, s.wall) & (s.ballast == 0))))
 }
 
 // The screen stays the number that was typed: a type of three kinds would ask more of whoever fills in a segment.
@@ -116,8 +114,8 @@ fn screen_kept(s: Segment) -> bool
     ensures { result ≡ screen_kept s }
 {
     let none = is_unscreened(s) & unscreened_kept(s);
-    let absorbent = in_range(1, 1, s.screen) & screened_kept(s, 0);
-    let reflective = in_range(2, 2, s.screen) & screened_kept(s, MOST_CHART);
+    let absorbent = (s.screen == 1) & screened_kept(s, 0);
+    let reflective = (s.screen == 2) & screened_kept(s, MOST_CHART);
     none | (absorbent | reflective)
 }
 

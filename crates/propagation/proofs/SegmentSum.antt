@@ -5,7 +5,7 @@ use mathlib.Core.Bool.{Bool, true, false, cond}
 use Prim.Native.Nat.{ℕ, ◌+◌, ◌≤◌}
 use native.Mathlib.Nat.{lt_of_lt_of_le}
 use native.Mathlib.Omega.{arith}
-use lib.Dec.{lit<, lit≤}
+use lib.Dec.{eqb, lit<, lit≤}
 use lib.IntN.{ℤ, pos, negsuc, ◌+ℤ◌}
 use mir.Syntax.{w16, w32}
 use mir.Val.{SFits, to_z, of_z}
@@ -21,6 +21,7 @@ use Rattle.figures.specs.Private.{Exactly}
 use Rattle.figures.proofs.Ranged.{Signed}
 use Rattle.figures.proofs.Numbers.{check_of-answered}
 use Rattle.figures.proofs.Signs.{read, below_more, below_back, natural_below, from_below, signed_below, returned, exactly_read, Sum, summand, added, summed}
+use Rattle.figures.proofs.Same.{one_number}
 use Rattle.figures.proofs.Lies.{lies_add, lies_within, lies_from, lies_micro, near_lies}
 use Rattle.propagation.specs.declared.SegmentBreakdown.{SegmentBreakdown}
 use Rattle.propagation.specs.declared.Propagation.{Propagation}
@@ -47,9 +48,9 @@ use Rattle.std.specs.Result.{ResultUnwrapsOrElse}
 
 -- ---- the facade
 
-pub facade_is : (s : Segment) {x b : Bool} → x ≡ within (pos 1) (pos 1) (read s.facade) → read s.facade ≡ s.facade → x ≡ b → cond b (pos 25) (pos 0) ≡ facade_tenths s
+pub facade_is : (s : Segment) {b : Bool} → read s.facade ≡ s.facade → eqb (of_z w32 s.facade) 1 ≡ b → cond b (pos 25) (pos 0) ≡ facade_tenths s
 unfolding facade_tenths
-facade_is s e f i = ap (λ (y : Bool). cond y (pos 25) (pos 0)) (sym i ∙ e ∙ ap (within (pos 1) (pos 1)) f)
+facade_is s f i = ap (λ (y : Bool). cond y (pos 25) (pos 0)) (sym i ∙ one_number 1 s.facade (lit< tt) f)
 
 facade_lies : (s : Segment) → Signed 0 25 (facade_tenths s)
 unfolding facade_tenths

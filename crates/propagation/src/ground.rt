@@ -37,7 +37,7 @@ fn ground_tenths(a: u64) -> i32
     requires { a < 20000000 }
     ensures { result ≡ neg_ℤ (pos ((a + 48499) / 100000)) }
 {
-    0 - ((a + 48499) / 100000) as i32
+    -(((a + 48499) / 100000) as i32)
 }
 
 // The close mark: at most 0.0015 dB from a tie.
