@@ -10,6 +10,7 @@ pub returns : goal.returns
 returns c =
     let f = c.figure-loud in
     let cells = c.args.cells.now in
-    let h = ap height_at (back f.result f.type_inv ∙ f.ensures) ∙ figure_height c.args.top c.requires.top_bound in
-    let s : c.sum.result ≡ sum_by (weight_at c.args.top) cells = search (rules, h) in
-    s ∙ sym (weights_added c.args.top cells)
+    let top = c.args.top in
+    let h = ap height_at (back f.result f.type_inv ∙ f.ensures) ∙ figure_height top.tenths top.bounded.1 in
+    let s : c.sum.result ≡ sum_by (weight_at top.tenths) cells = search (rules, h) in
+    s ∙ sym (weights_added top.tenths cells)
