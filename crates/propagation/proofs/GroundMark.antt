@@ -12,7 +12,7 @@ use lib.IntN.{ℤ, pos, negsuc, neg_ℤ, ◌+ℤ◌, ◌-ℤ◌}
 use borrow.Author.Tests.{le-leb, lt-leb, ltb-true}
 use Rattle.decibel.specs.Ints.{up, dn}
 use Rattle.decibel.specs.Greatest.{clamp}
-use Rattle.decibel.specs.Fine.{fine_log, fine_log_at}
+use Rattle.decibel.specs.Fine.{most_number, fine_log, fine_log_at}
 use Rattle.decibel.specs.Log.{AtLeast, AtMost}
 use Rattle.decibel.specs.Round.{tie, nearest, by_mark, IsFence, MarkAllowed}
 use Rattle.decibel.proofs.Ints.{add_is, neg_is, ints}
@@ -107,8 +107,8 @@ unfolding attenuation fine_log_at
 attenuation_is {s} g =
     let d = g.distance in
     let l : 1 ≤ 4 * up s.distance = omega (arith, d.least) in
-    let h : 4 * up s.distance ≤ 3200000000 = omega (arith, d.most) in
-    ap (λ (n : ℕ). (fine_log n - 40000000) * ground_factor s / 10000000) (sym (clamp_same 1 3200000000 (4 * up s.distance) l h))
+    let h : 4 * up s.distance ≤ most_number = omega (arith, d.most) in
+    ap (λ (n : ℕ). (fine_log n - 40000000) * ground_factor s / 10000000) (sym (clamp_same 1 most_number (4 * up s.distance) l h))
 
 module _ {s : Segment} (g : Ranged s) (far : 2500 < up s.distance) where
   near : 2500 ≤ up s.distance
