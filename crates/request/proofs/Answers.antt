@@ -9,8 +9,7 @@ use borrow.Author.Tests.{lt-ltb, le-ltb, le-leb, lt-leb}
 use lib.IntN.{ℤ, pos}
 use lib.ListN.{length, take, drop, get_or, length-take, length-map, get_or-map}
 use lib.Seq.{paste, take_all, take_at, drop-append-add, drop-drop}
-use Rattle.energy.specs.Total.{heard, TotalMark}
-use Rattle.energy.specs.Mark.{total_mark}
+use Rattle.energy.specs.Total.{heard}
 use Rattle.energy.proofs.Cells.{heard-kept, heard_few}
 use Rattle.energy.proofs.Named.{total_allowed}
 use Rattle.figures.specs.declared.Period.{Period}
@@ -28,7 +27,7 @@ use Rattle.study.specs.Plan.{Plan, segment_at, no_segment}
 use Rattle.study.specs.Add.{ours}
 use Rattle.request.specs.declared.PeriodResult.{PeriodResult}
 use Rattle.request.specs.Levels.{levels_of, level_at, own_marks}
-use Rattle.request.specs.Request.{Answer, cells_needed, request_check, request_number, levels_check, levels_number, laid, cells_by, answer_of, cell_from, cells_from, tenths_of, marks_of, result_from_cells, entries_check, Answered, AnsweredFrom}
+use Rattle.request.specs.Request.{Answer, cells_needed, request_check, request_number, levels_check, levels_number, laid, cells_by, answer_of, cell_from, cells_from, tenths_of, marks_of, result_from_added, TotalAllowed, Answered, AnsweredFrom}
 use Rattle.request.proofs.Cells.{cells_of, cells_found}
 use Rattle.request.proofs.Found.{none_adds}
 use Rattle.request.proofs.Results.{period_is, own_allowed}
@@ -36,20 +35,20 @@ use Rattle.std.specs.Prelude.{Ok, Err}
 
 -- ---- which refusal applies
 
-module _ (entries needed n : ℕ) where
-  pub no_entries : entries ≡ 0 → request_check entries needed n ≡ Err NoEntry
+module _ (entries n : ℕ) where
+  pub no_entries : entries ≡ 0 → request_check entries n ≡ Err NoEntry
   unfolding request_check unless
   no_entries e = simp (le-ltb 0 entries (omega arith))
 
-  pub few_cells : (entries ≡ 0 → ⊥) → n < needed → request_check entries needed n ≡ Err FewCells
+  pub few_cells : (entries ≡ 0 → ⊥) → n < cells_needed entries → request_check entries n ≡ Err FewCells
   unfolding request_check unless
-  few_cells some h = simp (lt-ltb 0 entries (omega (arith, some)), lt-leb needed n h)
+  few_cells some h = simp (lt-ltb 0 entries (omega (arith, some)), lt-leb (cells_needed entries) n h)
 
-  pub enough_cells : (entries ≡ 0 → ⊥) → needed ≤ n → request_check entries needed n ≡ Ok tt
+  pub enough_cells : (entries ≡ 0 → ⊥) → cells_needed entries ≤ n → request_check entries n ≡ Ok tt
   unfolding request_check unless
-  enough_cells some h = simp (lt-ltb 0 entries (omega (arith, some)), le-leb needed n h)
+  enough_cells some h = simp (lt-ltb 0 entries (omega (arith, some)), le-leb (cells_needed entries) n h)
 
-  request_number_lem : check_number (request_check entries needed n) ≡ request_number entries needed n
+  request_number_lem : check_number (request_check entries n) ≡ request_number entries n
   unfolding request_check request_number lowest_number check_number number_of
   request_number_lem = simp unless_number
 
@@ -64,11 +63,11 @@ answer_number check d n e = ap (λ (r : Answer). check_number (check_of r)) e �
 -- and what is asked of a plan
 pub plan_number : (plan : Plan) (n : ℕ) (d e : PeriodResult) → check_number (check_of (answer_of (levels_check plan n) d e)) ≡ levels_number plan n
 unfolding levels_check levels_number
-plan_number plan n d e = answer_number (levels_check plan n) d e refl ∙ request_number_lem (length plan.entries) (cells_needed (length plan.entries)) n
+plan_number plan n d e = answer_number (levels_check plan n) d e refl ∙ request_number_lem (length plan.entries) n
 
 -- ---- levels as computed
 
-pub mark_allowed : (cells : List ℤ) → TotalMark (heard (take ours.entries cells)) (total_mark (heard (take ours.entries cells)))
+pub mark_allowed : (cells : List ℤ) → TotalAllowed cells
 mark_allowed cells = total_allowed (heard (take ours.entries cells)) (omega (arith, heard_few (take ours.entries cells), length-take ours.entries cells)) (heard-kept (take ours.entries cells))
 
 -- both are written
@@ -84,13 +83,13 @@ both_laid day night before {first} {after} a b =
 
 module _ (added : List Propagation) (es : List Entry) (before : List ℤ) where
   -- a refusal leaves the cells
-  pub refused_from : {why : Refusal} → entries_check es (length before) ≡ Err why → AnsweredFrom added es before before (Err why)
+  pub refused_from : {why : Refusal} → request_check (length es) (length before) ≡ Err why → AnsweredFrom added es before before (Err why)
   unfolding laid answer_of F.answered
   refused_from e = record { cells = rw e; answer = rw e; day = mark_allowed (cells_from Day added es); night = mark_allowed (cells_from Night added es) }
 
-  pub accepted_from : {after : List ℤ} {d n : PeriodResult} → entries_check es (length before) ≡ Ok tt
+  pub accepted_from : {after : List ℤ} {d n : PeriodResult} → request_check (length es) (length before) ≡ Ok tt
       → after ≡ cells_from Day added es ++ (cells_from Night added es ++ drop (length es + length es) before)
-      → d ≡ result_from_cells Day added es → n ≡ result_from_cells Night added es → AnsweredFrom added es before after (Ok (record { day = d; night = n }))
+      → d ≡ result_from_added Day added es → n ≡ result_from_added Night added es → AnsweredFrom added es before after (Ok (record { day = d; night = n }))
   unfolding laid answer_of F.answered
   accepted_from e a d n =
       record {
@@ -100,8 +99,8 @@ module _ (added : List Propagation) (es : List Entry) (before : List ℤ) where
         night = mark_allowed (cells_from Night added es);
       }
 
-  pub from_number : {after : List ℤ} {r : Answer} → AnsweredFrom added es before after r → check_number (check_of r) ≡ request_number (length es) (cells_needed (length es)) (length before)
-  from_number a = answer_number _ _ _ a.answer ∙ request_number_lem (length es) (cells_needed (length es)) (length before)
+  pub from_number : {after : List ℤ} {r : Answer} → AnsweredFrom added es before after r → check_number (check_of r) ≡ request_number (length es) (length before)
+  from_number a = answer_number _ _ _ a.answer ∙ request_number_lem (length es) (length before)
 
 -- an answer's number
 pub plan_answer_number : {plan : Plan} {before after : List ℤ} {r : Answer} → Answered plan before after r → check_number (check_of r) ≡ levels_number plan (length before)

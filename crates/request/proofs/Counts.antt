@@ -28,7 +28,7 @@ count_none f zero h = refl
 count_none f (suc n) h = rw (h n, count_none f n h)
 
 -- no more than there are
-count_most : (f : ℕ → Bool) (n : ℕ) → count_to f n ≤ n
+pub count_most : (f : ℕ → Bool) (n : ℕ) → count_to f n ≤ n
 unfolding count_to
 count_most f zero = omega arith
 count_most f (suc n) = go (f n) (count_most f n)

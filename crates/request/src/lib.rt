@@ -6,7 +6,7 @@ ghost use Rattle.emission.specs.Emission.{raised};
 ghost use Rattle.emission.specs.Results.{SmallLevel};
 ghost use Rattle.figures.specs.Refusal.{check_number, check_of};
 ghost use Rattle.request.specs.Levels.{cell_of, limit_of, met_by};
-ghost use Rattle.request.specs.Request.{Answered, AnsweredFrom, request_number, levels_number, cells_needed, entry_cells, places_of, tenths_of, marks_of, period_from, first_cell, written};
+ghost use Rattle.request.specs.Request.{Answered, AnsweredFrom, request_number, levels_number, entry_cells, places_of, tenths_of, marks_of, period_from, TotalAllowed, first_cell, written};
 ghost use Rattle.request.specs.Private.{CloseSegments, hears};
 
 use arrayvec::ArrayVec;
@@ -72,13 +72,12 @@ fn sounds(place: usize, entries: &[Entry], levels: &[i32]) -> bool
 fn close_segments(levels: &[i32], entries: &[Entry], added: &[Propagation]) -> u32
     ensures { CloseSegments levels.now (places_of entries.now) (marks_of added.now) result }
 {
-    let mut count: u32 = 0;
-    for (k, part) in added[..added.len().min(MOST_SEGMENTS)].iter().enumerate() {
-        if part.close && sounds(k, entries, levels) {
-            count += 1;
-        }
-    }
-    count
+    added
+        .iter()
+        .enumerate()
+        .take(MOST_SEGMENTS)
+        .filter(|(k, part)| part.close && sounds(*k, entries, levels))
+        .count() as u32
 }
 
 // The tenths from which a level meets the period's limit.
@@ -101,14 +100,15 @@ pub fn is_met(period: Period, level: Level) -> bool
     }
 }
 
-// A period's result from its entries' levels, the entries, and what their segments add.
-fn period_of(
+// A period's result from levels as computed, the entries, and what their segments add, for any lists.
+pub fn period_of(
     period: Period,
     levels: &[i32],
     entries: &[Entry],
     added: &[Propagation],
 ) -> PeriodResult
     ensures is { result ≡ period_from period levels.now (places_of entries.now) (marks_of added.now) }
+    ensures allowed { TotalAllowed levels.now }
 {
     let heard = &levels[..levels.len().min(MOST_ENTRIES)];
     let total = energy::total_of(heard);
@@ -150,7 +150,7 @@ pub fn levels_by(
     cells: &mut [i32],
 ) -> Result<Periods<PeriodResult>, Refusal>
     ensures answered { AnsweredFrom added.now entries.now cells.old cells.new result }
-    ensures number { check_number (check_of result) ≡ request_number (length entries.now) (cells_needed (length entries.now)) (length cells.old) }
+    ensures number { check_number (check_of result) ≡ request_number (length entries.now) (length cells.old) }
 {
     let total = entries.len();
     if total == 0 {

@@ -12,12 +12,12 @@ use Rattle.request.proofs.levels_by.Goals as goal
 
 pub returns-then-total-eq0 : goal.returns-then-total-eq0
 returns-then-total-eq0 c =
-    let a = refused_from c.args.added.now c.args.entries.now c.args.cells.now (no_entries _ _ _ c.if-total-eq0.true) in
+    let a = refused_from c.args.added.now c.args.entries.now c.args.cells.now (no_entries _ _ c.if-total-eq0.true) in
     record { answered = a; number = from_number _ _ _ a }
 
 pub returns-then-cells-total : goal.returns-then-cells-total
 returns-then-cells-total c =
-    let a = refused_from c.args.added.now c.args.entries.now c.args.cells.now (few_cells _ _ _ c.if-total-eq0.false (omega (arith, c.if-cells-total.true))) in
+    let a = refused_from c.args.added.now c.args.entries.now c.args.cells.now (few_cells _ _ c.if-total-eq0.false (omega (arith, c.if-cells-total.true))) in
     record { answered = a; number = from_number _ _ _ a }
 
 pub loop-at-init : goal.loop-at-init
@@ -43,7 +43,7 @@ returns c =
     let all = laying_all added es before room (omega (arith, c.loop-at-test.false, c.loop-at.auto.at-end)) c.loop-at.invariant in
     let rest = drop (length es + length es) before in
     let answer =
-    accepted_from added es before (enough_cells _ _ _ c.if-total-eq0.false room) all
+    accepted_from added es before (enough_cells _ _ c.if-total-eq0.false room) all
     (c.period_of.ensures.is ∙ ap (λ (cells : List ℤ). period_from Day cells (places_of es) (marks_of added)) (day_part added es before rest all))
     (c.period_of-2.ensures.is ∙ ap (λ (cells : List ℤ). period_from Night cells (places_of es) (marks_of added)) (night_part added es before rest all _ (omega arith))) in
     record { answered = answer; number = from_number _ _ _ answer }
