@@ -69,7 +69,7 @@ limits_number_lem : (l : Limits) (segments entries : ℕ) → check_number (limi
 unfolding limits_check limits_number lowest_number check_number number_of
 limits_number_lem l segments entries = simp unless_number
 
-pub limits_number_by : (l : Limits) (segments entries : ℕ) {r : Check} → r ≡ limits_check l segments entries → check_number r ≡ limits_number l segments entries
+limits_number_by : (l : Limits) (segments entries : ℕ) {r : Check} → r ≡ limits_check l segments entries → check_number r ≡ limits_number l segments entries
 limits_number_by l segments entries e = ap check_number e ∙ limits_number_lem l segments entries
 
 -- the same of each answer that the function gives: no file names its tests, so an edit of a test fails on the promise

@@ -44,7 +44,7 @@ count_append f n zero = rw (add-zero n) (omega arith)
 count_append f n (suc d) = rw (add-suc n d, count_append f n d) (omega arith)
 
 -- no number from n on passes
-pub count_past : (f : ℕ → Bool) (n d : ℕ) → ((k : ℕ) → n ≤ k → f k ≡ false) → count_to f (n + d) ≡ count_to f n
+count_past : (f : ℕ → Bool) (n d : ℕ) → ((k : ℕ) → n ≤ k → f k ≡ false) → count_to f (n + d) ≡ count_to f n
 count_past f n d h = count_append f n d ∙ rw (count_none (λ k. f (n + k)) d (λ k. h (n + k) (omega arith))) (omega arith)
 
 module _ (p : Period) (plan : Plan) (m : Marks) where

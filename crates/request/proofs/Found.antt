@@ -1,4 +1,4 @@
--- What each segment of a plan adds, and its close mark, at its place in two arrays.
+-- What each segment of a plan adds and its own mark, with nothing added and no mark where there is no segment.
 -- Assumes nothing.
 use mathlib.Core.Path.{◌≡◌, refl, sym, ap, ◌∙◌}
 use mathlib.Core.Bool.{Bool, true, false, cond}

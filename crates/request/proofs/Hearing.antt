@@ -18,7 +18,7 @@ use Rattle.request.specs.Private.{CloseSegments, hears}
 use Rattle.request.proofs.Counts.{count_same, count_none, count_most, count_append}
 use Rattle.std.proofs.Common.{get_or}
 
-pub hears_is : (k : ℕ) (es : List Entry) (cells : List ℤ) → hears k es cells ≡ sounds_at k (places_of es) cells
+hears_is : (k : ℕ) (es : List Entry) (cells : List ℤ) → hears k es cells ≡ sounds_at k (places_of es) cells
 unfolding sounds_at
 hears_is k [] cells = refl
 hears_is k (e ∷ es) [] = refl

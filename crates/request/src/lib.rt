@@ -17,7 +17,7 @@ use propagation::Propagation;
 use study::{Entry, MOST_ENTRIES, MOST_SEGMENTS, Study};
 
 // The working cells that the entries of any study need.
-pub const MOST_CELLS: usize = 192;
+pub const MOST_CELLS: usize = 2 * MOST_ENTRIES;
 
 // The tenths from which a level, to the nearest whole decibel, is 68 dB by day and 63 dB by night or more.
 const DAY_LIMIT: i32 = 675;

@@ -61,9 +61,9 @@ module _ (l : Limits) (count : ℕ) where
   unfolding segment_limit unless
   segments_room h = simp (lt-leb l.segments count h)
 
-  pub segment_fits : segment_limit l count ≡ Ok tt → count < l.segments
+  pub segments_below : segment_limit l count ≡ Ok tt → count < l.segments
   unfolding segment_limit
-  segment_fits e = leb-false l.segments count (kept_first (leb l.segments count) SegmentLimit (Ok tt) e)
+  segments_below e = leb-false l.segments count (kept_first (leb l.segments count) SegmentLimit (Ok tt) e)
 
 module _ (l : Limits) (count : ℕ) (s : Segment) where
   pub record SegmentTaken : Type 0 where
@@ -74,7 +74,7 @@ module _ (l : Limits) (count : ℕ) (s : Segment) where
   unfolding segment_answer
   segment_taken e =
       let both = both_accept (segment_limit l count) (segment_check s) e in
-      record { room = segment_fits l count both.0; kept = both.1 }
+      record { room = segments_below l count both.0; kept = both.1 }
 
 -- ---- a train: 20, then 22, then its own lines
 

@@ -126,7 +126,7 @@ impl Study {
     }
 
     // Adds the segment after the last, or refuses it and leaves the study as it was.
-    #[tactic(auto, unfolding(crate::specs::Add::add_segment, crate::specs::Add::segment_answer, crate::specs::Add::answer, figures::specs::Refusal::first_refused), using(crate::proofs::Additions::segment_fits, crate::proofs::Additions::segment_answered))]
+    #[tactic(auto, unfolding(crate::specs::Add::add_segment, crate::specs::Add::segment_answer, crate::specs::Add::answer, figures::specs::Refusal::first_refused), using(crate::proofs::Additions::segments_below, crate::proofs::Additions::segment_answered))]
     pub fn add_segment(&mut self, segment: Segment) -> Result<(), Refusal>
         ensures is { added result self.new ≡ add_segment ours self.old segment }
         ensures number { check_number result ≡ segment_number ours (length self.old.segments) segment }

@@ -3,6 +3,7 @@ use borrow.Author.Tests.{tests}
 use Rattle.std.proofs.Common.{rules}
 use Rattle.std.proofs.lemmas.Iterator.{YieldsList-from_slice, YieldsList-from_take}
 use Rattle.std.proofs.lemmas.Iterator.Consumers.{YieldsList-from_enumerate, YieldsList-from_filter, count_from_yields_List}
+use Rattle.study.specs.Add.{ours}
 use Rattle.request.proofs.Hearing.{is_counted, close_segments_by}
 use Rattle.request.proofs.close_segments.Goals as goal
 
@@ -12,5 +13,5 @@ returns c =
     let levels = c.args.levels.now in
     close_segments_by entries levels c.args.added.now
     (count_from_yields_List _ _ c.count.ensures.ran
-    (YieldsList-from_filter _ (is_counted entries levels) (YieldsList-from_take 24 (YieldsList-from_enumerate (YieldsList-from_slice c.args.added.now cc) cc) cc) c.filter.ensures.closure
+    (YieldsList-from_filter _ (is_counted entries levels) (YieldsList-from_take ours.segments (YieldsList-from_enumerate (YieldsList-from_slice c.args.added.now cc) cc) cc) c.filter.ensures.closure
     (λ x b q k. search (rules, tests))))
