@@ -1,13 +1,13 @@
 -- Laws of a breakdown's lines: what each is written from, and one line after another.
 -- Assumes nothing.
-use mathlib.Core.Path.{◌≡◌, refl, sym, ap, ◌∙◌}
-use mathlib.Core.Bool.{cond}
+use mathlib.Core.Path.{◌≡◌, refl, sym, ◌∙◌}
+use mathlib.Core.Bool.{Bool, true, false, cond}
 use mathlib.Core.List.{List, [], ◌∷◌, ◌++◌, append-nil, flatten}
-use Prim.Native.Nat.{ℕ, ◌+◌, ◌<◌, ◌≤◌, ◌^◌}
+use Prim.Native.Nat.{ℕ, ◌+◌, ◌*◌, ◌<◌, ◌≤◌, ◌^◌}
 use native.Mathlib.Numerals.{add-one}
 use native.Mathlib.Omega.{arith}
 use lib.IntN.{ℤ, pos}
-use lib.ListN.{length, get_or, replicate}
+use lib.ListN.{length, length-append, get_or, replicate}
 use Rattle.std.specs.Fmt.{decimal}
 use Rattle.decibel.specs.declared.Level.{Level}
 use Rattle.figures.specs.declared.Segment.{Segment}
@@ -16,97 +16,157 @@ use Rattle.figures.specs.Rules.{unscreened}
 use Rattle.figures.proofs.Signs.{read}
 use Rattle.propagation.specs.declared.SegmentBreakdown.{SegmentBreakdown}
 use Rattle.propagation.specs.Propagation.{segment_breakdown_of}
+use Rattle.propagation.specs.Results.{PartsBelow}
 use Rattle.emission.specs.declared.TrainBreakdown.{TrainBreakdown}
 use Rattle.emission.specs.Emission.{train_breakdown_of}
+use Rattle.emission.specs.Results.{TrainParted}
 use Rattle.study.specs.declared.Entry.{Entry}
-use Rattle.study.specs.Add.{ours}
 use Rattle.study.specs.Plan.{Plan, no_segment, no_entry}
 use Rattle.request.specs.Levels.{own_marks}
 use Rattle.request.specs.Request.{Answer, AnsweredBy}
-use Rattle.writing.specs.Bytes.{ascii, figure_of}
-use Rattle.writing.proofs.Digits.{decimal_is}
+use Rattle.writing.specs.Bytes.{ascii, fitting, digits_of, figure_of}
+use Rattle.writing.proofs.Digits.{digits_length, decimal_is}
+use Rattle.writing.proofs.Joining.{all_fit}
 use Rattle.text.specs.Answer.{plan_in}
-use Rattle.text.specs.Text.{read_text}
 use Rattle.report.specs.Bytes.{level}
 use Rattle.report.specs.Report.{cells_lent, report_of}
 use Rattle.report.proofs.Lines.{flatten_append}
-use Rattle.breakdown.specs.Lines.{close_part, path_part, step_parts, reading_parts, reflection_parts, segment_parts, cell_level, train_parts, level_parts, place_number, entry_parts, segment_bytes, entry_bytes}
+use Rattle.breakdown.specs.Lines.{close_part, path_part, step_parts, reading_parts, reflection_parts, segment_parts, cell_level, train_parts, level_parts, place_number, entry_parts}
+use Rattle.breakdown.specs.Private.{segment_bytes, entry_bytes}
 use Rattle.breakdown.specs.Breakdown.{each_below, segments_parts, cells_of, cell_at, segment_line, entry_line, entries_parts, study_parts, text_parts, segments_bytes, entries_bytes}
-use Rattle.breakdown.proofs.Read.{SegmentRead, TrainRead}
+use Rattle.breakdown.proofs.Read.{small_length, segment_read, train_read}
 
--- ---- a line, from what is read of its parts
+-- ---- a line, put together from its parts: there is room for all of them
 
--- pieces one after another, as a format string writes them
-abbrev pub strung : List ℕ → List (List ℕ) → List ℕ
-strung p [] = p
-strung p (q ∷ qs) = p ++ strung q qs
+name_length : (clear : Bool) → length (cond clear (ascii " ground ") (ascii " screen ")) ≤ 8
+name_length true = omega arith
+name_length false = omega arith
 
-strung_is : (p : List ℕ) (ps : List (List ℕ)) → strung p ps ≡ flatten (p ∷ ps)
+close_length : (close : Bool) → length (close_part close) ≤ 11
+unfolding close_part
+close_length true = omega arith
+close_length false = omega arith
+
+-- the parts of a segment's line
+abbrev segment_list : ℕ → Segment → SegmentBreakdown → List (List ℕ)
+segment_list number s b =
+    ascii "segment " ∷ digits_of number ∷ ascii " distance " ∷ figure_of b.distance ∷ ascii " air " ∷ figure_of b.air
+    ∷ cond (unscreened s) (ascii " ground ") (ascii " screen ") ∷ figure_of b.path ∷ ascii " angle " ∷ figure_of b.angle
+    ∷ ascii " chart " ∷ figure_of b.chart ∷ ascii " track " ∷ figure_of b.track ∷ ascii " ballast " ∷ figure_of b.ballast
+    ∷ ascii " facade " ∷ figure_of b.facade ∷ ascii " opposite " ∷ figure_of b.opposite ∷ close_part b.close ∷ []
+
+segment_list_is : (number : ℕ) (s : Segment) → flatten (segment_list number s (segment_breakdown_of s)) ≡ segment_bytes number s
+unfolding segment_bytes segment_parts step_parts path_part reading_parts reflection_parts
+segment_list_is number s = refl
+
+segment_length : (number : ℕ) (s : Segment) (b : SegmentBreakdown) → number < 2 ^ 64 → PartsBelow b → length (flatten (segment_list number s b)) ≤ 256
 unfolding flatten
-strung_is p [] = sym (append-nil p)
-strung_is p (q ∷ qs) = ap (λ (l : List ℕ). p ++ l) (strung_is q qs)
+segment_length number s b h small =
+    simp length-append
+    (omega (arith, digits_length 19 number (omega arith), name_length (unscreened s), close_length b.close, small_length b.distance small.distance, small_length b.air small.air, small_length b.path small.path, small_length b.angle small.angle, small_length b.chart small.chart, small_length b.track small.track, small_length b.ballast small.ballast, small_length b.facade small.facade, small_length b.opposite small.opposite))
 
--- three of them
-all_three : (p q r : List ℕ) (ps qs rs : List (List ℕ)) → strung p ps ++ (strung q qs ++ strung r rs) ≡ flatten ((p ∷ ps) ++ ((q ∷ qs) ++ (r ∷ rs)))
-all_three p q r ps qs rs =
-    rw (strung_is p ps, strung_is q qs, strung_is r rs, flatten_append (p ∷ ps) ((q ∷ qs) ++ (r ∷ rs)), flatten_append (q ∷ qs) (r ∷ rs)) refl
-
--- the pieces after the first of each format string of a segment's line
-abbrev pub stepped : ℕ → List ℕ → SegmentBreakdown → List (List ℕ)
-stepped number name b =
-    decimal number ∷ ascii " distance " ∷ figure_of (read b.distance) ∷ ascii " air " ∷ figure_of (read b.air) ∷ name ∷ figure_of (read b.path) ∷ ascii " angle " ∷ figure_of (read b.angle) ∷ []
-
-abbrev pub entered : SegmentBreakdown → List (List ℕ)
-entered b = figure_of (read b.chart) ∷ ascii " track " ∷ figure_of (read b.track) ∷ ascii " ballast " ∷ figure_of (read b.ballast) ∷ []
-
-abbrev pub reflected : SegmentBreakdown → List ℕ → List (List ℕ)
-reflected b closing = figure_of (read b.facade) ∷ ascii " opposite " ∷ figure_of (read b.opposite) ∷ closing ∷ []
-
-pub segment_is : (number : ℕ) (s : Segment) {b : SegmentBreakdown} {name closing : List ℕ}
+pub segment_is : (number : ℕ) (s : Segment) {b : SegmentBreakdown} {count name mark distance air path angle chart track ballast facade opposite : List ℕ}
     → number < 2 ^ 64
     → b ≡ segment_breakdown_of s
-    → SegmentRead b
+    → PartsBelow b
+    → count ≡ decimal number
     → name ≡ cond (unscreened s) (ascii " ground ") (ascii " screen ")
-    → closing ≡ close_part b.close
-    → strung (ascii "segment ") (stepped number name b) ++ (strung (ascii " chart ") (entered b) ++ strung (ascii " facade ") (reflected b closing)) ≡ segment_bytes number s
-unfolding segment_bytes segment_parts step_parts path_part reading_parts reflection_parts
-segment_is number s {b} {name} {closing} h is r n c =
-    all_three (ascii "segment ") (ascii " chart ") (ascii " facade ") (stepped number name b) (entered b) (reflected b closing)
-    ∙ rw (n, c, r.distance, r.air, r.path, r.angle, r.chart, r.track, r.ballast, r.facade, r.opposite, decimal_is number h, is) refl
+    → mark ≡ close_part b.close
+    → distance ≡ figure_of (read b.distance)
+    → air ≡ figure_of (read b.air)
+    → path ≡ figure_of (read b.path)
+    → angle ≡ figure_of (read b.angle)
+    → chart ≡ figure_of (read b.chart)
+    → track ≡ figure_of (read b.track)
+    → ballast ≡ figure_of (read b.ballast)
+    → facade ≡ figure_of (read b.facade)
+    → opposite ≡ figure_of (read b.opposite)
+    → fitting 256 (ascii "segment " ∷ count ∷ ascii " distance " ∷ distance ∷ ascii " air " ∷ air ∷ name ∷ path ∷ ascii " angle " ∷ angle ∷ ascii " chart " ∷ chart ∷ ascii " track " ∷ track ∷ ascii " ballast " ∷ ballast ∷ ascii " facade " ∷ facade ∷ ascii " opposite " ∷ opposite ∷ mark ∷ []) ≡ segment_bytes number s
+segment_is number s {b} h is small count name mark distance air path angle chart track ballast facade opposite =
+    let r = segment_read b small in
+    rw (count, name, mark, distance, air, path, angle, chart, track, ballast, facade, opposite, r.distance, r.air, r.path, r.angle, r.chart, r.track, r.ballast, r.facade, r.opposite, decimal_is number h)
+    (all_fit 256 (segment_list number s b) (segment_length number s b h small) ∙ rw is (segment_list_is number s))
 
 -- and of an entry's
-abbrev pub sped : ℕ → ℕ → TrainBreakdown → List (List ℕ)
-sped number segment b =
-    decimal number ∷ ascii " segment " ∷ decimal segment ∷ ascii " speed " ∷ figure_of (read b.speed) ∷ ascii " rolling " ∷ figure_of (read b.rolling) ∷ ascii " vehicles " ∷ figure_of (read b.vehicles) ∷ []
+abbrev entry_list : ℕ → ℕ → TrainBreakdown → List ℕ → List ℕ → List ℕ → List ℕ → List (List ℕ)
+entry_list number segment b by_day by_night day night =
+    ascii "train " ∷ digits_of number ∷ ascii " segment " ∷ digits_of segment ∷ ascii " speed " ∷ figure_of b.speed
+    ∷ ascii " rolling " ∷ figure_of b.rolling ∷ ascii " vehicles " ∷ figure_of b.vehicles ∷ ascii " trains by day " ∷ by_day
+    ∷ ascii " trains by night " ∷ by_night ∷ ascii " level by day " ∷ day ∷ ascii " level by night " ∷ night ∷ ascii "\n" ∷ []
 
-abbrev pub counted : TrainBreakdown → List (List ℕ)
-counted b = level b.trains.day ∷ ascii " trains by night " ∷ level b.trains.night ∷ []
+entry_list_is : (number segment : ℕ) (t : Train) (day night : ℤ) {b : TrainBreakdown}
+    → b ≡ train_breakdown_of t
+    → flatten (entry_list number segment b (level b.trains.day) (level b.trains.night) (level (cell_level day)) (level (cell_level night))) ≡ entry_bytes number segment t day night
+unfolding entry_bytes entry_parts train_parts level_parts
+entry_list_is number segment t day night is = rw is refl
 
-abbrev pub levelled : Level → Level → List (List ℕ)
-levelled day night = level day ∷ ascii " level by night " ∷ level night ∷ ascii "\n" ∷ []
+-- four levels that are written in twelve bytes each
+pub record Short (p q r s : List ℕ) : Type 0 where
+  pub by_day : length p ≤ 12
+  pub by_night : length q ≤ 12
+  pub day : length r ≤ 12
+  pub night : length s ≤ 12
 
-pub entry_is : (number segment : ℕ) (t : Train) (day night : ℤ) {b : TrainBreakdown} {by_day by_night : Level}
+entry_length : (number segment : ℕ) {v : TrainBreakdown} (b : TrainBreakdown) (by_day by_night day night : List ℕ)
     → number < 2 ^ 64
     → segment < 2 ^ 64
-    → b ≡ train_breakdown_of t
-    → TrainRead b
-    → by_day ≡ cell_level day
-    → by_night ≡ cell_level night
-    → strung (ascii "train ") (sped number segment b) ++ (strung (ascii " trains by day ") (counted b) ++ strung (ascii " level by day ") (levelled by_day by_night)) ≡ entry_bytes number segment t day night
-unfolding entry_bytes entry_parts train_parts level_parts
-entry_is number segment t day night {b} {by_day} {by_night} h k is r d n =
-    all_three (ascii "train ") (ascii " trains by day ") (ascii " level by day ") (sped number segment b) (counted b) (levelled by_day by_night)
-    ∙ rw (d, n, r.speed, r.rolling, r.vehicles, decimal_is number h, decimal_is segment k, is) refl
+    → TrainParted v b
+    → Short by_day by_night day night
+    → length (flatten (entry_list number segment b by_day by_night day night)) ≤ 256
+unfolding flatten
+entry_length number segment b by_day by_night day night h k small short =
+    simp length-append
+    (omega (arith, digits_length 19 number (omega arith), digits_length 19 segment (omega arith), small_length b.speed small.speed, small_length b.rolling small.rolling, small_length b.vehicles small.vehicles, short.by_day, short.by_night, short.day, short.night))
+
+pub entry_is : (number segment : ℕ) (t : Train) (day night : ℤ) {b : TrainBreakdown} {count place speed rolling vehicles by_day by_night level_by_day level_by_night : List ℕ} {heard_by_day heard_by_night : Level}
+    → number < 2 ^ 64
+    → segment < 2 ^ 64
+    → TrainParted (train_breakdown_of t) b
+    → Short by_day by_night level_by_day level_by_night
+    → count ≡ decimal number
+    → place ≡ decimal segment
+    → speed ≡ figure_of (read b.speed)
+    → rolling ≡ figure_of (read b.rolling)
+    → vehicles ≡ figure_of (read b.vehicles)
+    → by_day ≡ level b.trains.day
+    → by_night ≡ level b.trains.night
+    → level_by_day ≡ level heard_by_day
+    → level_by_night ≡ level heard_by_night
+    → heard_by_day ≡ cell_level day
+    → heard_by_night ≡ cell_level night
+    → fitting 256 (ascii "train " ∷ count ∷ ascii " segment " ∷ place ∷ ascii " speed " ∷ speed ∷ ascii " rolling " ∷ rolling ∷ ascii " vehicles " ∷ vehicles ∷ ascii " trains by day " ∷ by_day ∷ ascii " trains by night " ∷ by_night ∷ ascii " level by day " ∷ level_by_day ∷ ascii " level by night " ∷ level_by_night ∷ ascii "\n" ∷ []) ≡ entry_bytes number segment t day night
+entry_is number segment t day night {b} {count} {place} {speed} {rolling} {vehicles} {by_day} {by_night} {level_by_day} {level_by_night} h k parted short c p s r v d n l m heard kept =
+    let f = train_read b parted in
+    rw (c, p, s, r, v, f.speed, f.rolling, f.vehicles, decimal_is number h, decimal_is segment k)
+    (all_fit 256 (entry_list number segment b by_day by_night level_by_day level_by_night) (entry_length number segment b by_day by_night level_by_day level_by_night h k parted short)
+    ∙ rw (d, n, l, m, heard, kept) (entry_list_is number segment t day night parted.is))
 
 -- ---- one place after another
 
-pub each_none : (parts : ℕ → List (List ℕ)) → [] ≡ flatten (each_below 0 parts)
-unfolding each_below flatten
-each_none parts = refl
-
-pub each_more : (parts : ℕ → List (List ℕ)) (k : ℕ) → flatten (each_below k parts) ++ flatten (parts k) ≡ flatten (each_below (k + 1) parts)
+each_more : (parts : ℕ → List (List ℕ)) (k : ℕ) → flatten (each_below k parts) ++ flatten (parts k) ≡ flatten (each_below (k + 1) parts)
 unfolding each_below
 each_more parts k = rw (add-one k) (sym (flatten_append (each_below k parts) (parts k)))
+
+-- the lines so far, and no more room taken than so many bytes a line
+pub record Lines (parts : ℕ → List (List ℕ)) (k : ℕ) (bytes : List ℕ) : Type 0 where
+  pub is : bytes ≡ flatten (each_below k parts)
+  pub room : length bytes ≤ 256 * k
+
+pub no_lines : (parts : ℕ → List (List ℕ)) {bytes : List ℕ} → bytes ≡ [] → Lines parts 0 bytes
+unfolding each_below flatten
+no_lines parts e = record { is = e; room = rw e (omega arith) }
+
+pub line_more : {parts : ℕ → List (List ℕ)} {k : ℕ} {before line after : List ℕ}
+    → Lines parts k before
+    → length line ≤ 256
+    → line ≡ flatten (parts k)
+    → after ≡ before ++ line
+    → Lines parts (k + 1) after
+line_more {parts} {k} {before} {line} so_far h is e =
+    record {
+      is = e ∙ rw (so_far.is, is) (each_more parts k);
+      room = rw (e, length-append before line) (omega (arith, so_far.room));
+    }
 
 -- the request for levels answers so
 pub cells_are : (plan : Plan) {before after : List ℤ} {r : Answer}
@@ -119,24 +179,22 @@ cells_are plan e a = rw e at a.cells
 -- ---- a study and a text
 
 module _ (plan : Plan) {items : List Segment} (is : items ≡ plan.segments) (k : ℕ) where
-  pub segment_more : k < length items
-      → flatten (each_below k (segment_line plan)) ++ segment_bytes (k + 1) (get_or items k no_segment) ≡ flatten (each_below (k + 1) (segment_line plan))
+  pub segment_at_place : segment_bytes (k + 1) (get_or items k no_segment) ≡ flatten (segment_line plan k)
   unfolding segment_bytes
-  segment_more h = rw is (each_more (segment_line plan) k)
+  segment_at_place = rw is refl
 
   pub segments_all : k ≤ length items → length items ≤ k → flatten (each_below k (segment_line plan)) ≡ segments_bytes plan
   unfolding segments_bytes segments_parts
   segments_all h e = let all : k ≡ length items = omega (arith, h, e) in rw (all, is) refl
 
 module _ (plan : Plan) {items : List Entry} (is : items ≡ plan.entries) (k : ℕ) (cells : List ℤ) where
-  pub entry_more : {number : ℕ} {day night : ℤ}
-      → k < length items
+  pub entry_at_place : {number : ℕ} {day night : ℤ}
       → number ≡ place_number (get_or items k no_entry).segment
       → day ≡ cell_at cells k
       → night ≡ cell_at cells (length items + k)
-      → flatten (each_below k (entry_line plan cells)) ++ entry_bytes (k + 1) number (get_or items k no_entry).train day night ≡ flatten (each_below (k + 1) (entry_line plan cells))
+      → entry_bytes (k + 1) number (get_or items k no_entry).train day night ≡ flatten (entry_line plan cells k)
   unfolding entry_bytes
-  entry_more h n d m = rw (n, d, m, is) (each_more (entry_line plan cells) k)
+  entry_at_place n d m = rw (n, d, m, is) refl
 
   pub entries_all : k ≤ length items → length items ≤ k → flatten (each_below k (entry_line plan cells)) ≡ entries_bytes plan cells
   unfolding entries_bytes entries_parts
@@ -146,11 +204,7 @@ pub study_is : (plan : Plan) {cells : List ℤ} → cells ≡ cells_of plan → 
 unfolding study_parts segments_bytes entries_bytes
 study_is plan e = rw e (sym (flatten_append (segments_parts plan) (entries_parts plan (cells_of plan))))
 
-pub text_is : (text : List ℕ) {st : Plan} {lines outcome : List ℕ}
-    → st ≡ (read_text ours text).study
-    → lines ≡ flatten (study_parts st)
-    → outcome ≡ report_of text
-    → lines ++ outcome ≡ flatten (text_parts text)
-unfolding text_parts
-text_is text e l o =
-    rw (l, o, e, flatten_append (study_parts (plan_in text)) (report_of text ∷ []), ← strung_is (report_of text) []) refl
+pub text_is : (text : List ℕ) {st : Plan} {outcome : List ℕ} → st ≡ plan_in text → outcome ≡ report_of text → flatten (study_parts st) ++ outcome ≡ flatten (text_parts text)
+unfolding text_parts flatten
+text_is text e o =
+    rw (o, e, flatten_append (study_parts (plan_in text)) (report_of text ∷ []), append-nil (report_of text)) refl

@@ -3,6 +3,8 @@
 use mathlib.Core.Path.{◌≡◌}
 use native.Mathlib.Omega.{arith}
 use lib.IntN.{ℤ, pos, negsuc}
+use lib.ListN.{length}
+use Prim.Native.Nat.{◌≤◌}
 use mir.Facts.{to_z-of_z}
 use mir.Syntax.{w32}
 use mir.Val.{SFits}
@@ -12,10 +14,15 @@ use Rattle.propagation.specs.declared.SegmentBreakdown.{SegmentBreakdown}
 use Rattle.propagation.specs.Results.{PartsBelow}
 use Rattle.emission.specs.declared.TrainBreakdown.{TrainBreakdown}
 use Rattle.emission.specs.Results.{TrainParted}
+use Rattle.writing.specs.Bytes.{figure_of}
+use Rattle.writing.proofs.Lengths.{figure_length}
 
 small_fits : (z : ℤ) → Below 2000 z → SFits w32 z
 small_fits (pos n) h = record { sfits = omega (arith, h.most, h.least) }
 small_fits (negsuc n) h = record { sfits = omega (arith, h.most, h.least) }
+
+pub small_length : (z : ℤ) → Below 2000 z → length (figure_of z) ≤ 12
+small_length z h = figure_length z (small_fits z h)
 
 small_read : (z : ℤ) → Below 2000 z → read z ≡ z
 small_read z h = to_z-of_z (small_fits z h)

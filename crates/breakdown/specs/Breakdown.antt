@@ -59,10 +59,10 @@ entries_bytes plan cells = flatten (entries_parts plan cells)
 
 -- what is written of a breakdown
 unfoldable pub study_bytes : StudyBreakdown → List ℕ
-study_bytes b = segments_bytes b.study ++ entries_bytes b.study b.cells
+study_bytes b = segments_bytes b.study.now ++ entries_bytes b.study.now b.cells
 
 unfoldable pub text_bytes : TextBreakdown → List ℕ
-text_bytes b = study_bytes b.lines ++ written b.outcome
+text_bytes b = flatten (study_parts b.study) ++ written b.outcome
 
 -- what the breakdown of a study ensures: it is written as the study's parts one after another, and 01 allows the marks
 pub record StudyBrokenDown (plan : Plan) (b : StudyBreakdown) : Type 0 where

@@ -1,6 +1,5 @@
 -- The lines of a breakdown, part by part: a segment's and a train entry's, each part after its name, in decibels with one decimal.
 -- Assumes nothing.
-use mathlib.Core.List.{flatten}
 use Rattle.std.specs.Prelude.{Bool, true, false, cond, List, [], ◌∷◌, ◌++◌, ℕ, ◌+◌, ltb, ℤ, negsuc}
 use Rattle.std.specs.Int.Signed.{lt_z}
 use Rattle.decibel.specs.declared.Level.{Level}
@@ -87,11 +86,3 @@ unfoldable pub entry_parts : ℕ → ℕ → Train → ℤ → ℤ → List (Lis
 entry_parts number segment t day night =
     number_part (ascii "train ") number
     ++ (number_part (ascii " segment ") segment ++ (train_parts (train_breakdown_of t) ++ level_parts day night))
-
--- ---- the lines as bytes
-
-unfoldable pub segment_bytes : ℕ → Segment → List ℕ
-segment_bytes number s = flatten (segment_parts number s)
-
-unfoldable pub entry_bytes : ℕ → ℕ → Train → ℤ → ℤ → List ℕ
-entry_bytes number segment t day night = flatten (entry_parts number segment t day night)

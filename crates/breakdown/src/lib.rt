@@ -2,23 +2,38 @@
 #![tactic(auto)]
 
 ghost use Rattle.std.specs.Prelude.{◌≡◌, pos, get_or, cond, Some};
-ghost use Rattle.std.specs.Fmt.{WritesOnOk};
 ghost use Rattle.figures.specs.Rules.{unscreened};
 ghost use Rattle.writing.specs.Bytes.{ascii};
 ghost use Rattle.text.specs.Answer.{plan_in};
-ghost use Rattle.breakdown.specs.Lines.{close_part, cell_level, place_number, segment_bytes, entry_bytes};
+ghost use Rattle.breakdown.specs.Lines.{close_part, cell_level, place_number};
+ghost use Rattle.breakdown.specs.Private.{segment_bytes, entry_bytes};
 ghost use Rattle.breakdown.specs.Breakdown.{segments_bytes, entries_bytes, study_bytes, text_bytes, StudyBrokenDown, BrokenDown};
 
+use arrayvec::ArrayString;
 use decibel::Level;
 use figures::{Segment, Train};
-use report::{Decibels, Outcome};
+use itoa::Buffer;
+use report::{Decibels, MOST_BYTES, Outcome};
 use request::MOST_CELLS;
 use std::fmt;
-use study::{MOST_SEGMENTS, Study};
-use writing::Tenths;
+use study::{MOST_ENTRIES, MOST_SEGMENTS, Study};
+use writing::{Tenths, joined};
 
 // The least level that a working cell can hold, in tenths: any below it is silent.
 const LEAST_LEVEL: i32 = -2000;
+
+// No line has more bytes than this.
+const LINE: usize = 256;
+
+// Nor the lines of a study's segments than this, those of its train entries, and both.
+const SEGMENT_LINES: usize = MOST_SEGMENTS * LINE;
+
+const ENTRY_LINES: usize = MOST_ENTRIES * LINE;
+
+pub const STUDY_LINES: usize = SEGMENT_LINES + ENTRY_LINES;
+
+// Nor those of a text and its report.
+pub const TEXT_LINES: usize = STUDY_LINES + MOST_BYTES;
 
 // The level that a working cell holds.
 #[tactic(auto, unfolding(crate::specs::Lines::cell_level))]
@@ -68,42 +83,48 @@ fn closing(close: bool) -> &'static str
     if close { " close yes\n" } else { " close no\n" }
 }
 
-// A segment with its number: it is written as its line, first the steps from the source to the window, then the readings that the
-// planner enters, then the reflections and the close mark.
-#[derive(Clone, Copy)]
-struct SegmentLine {
-    number: usize,
-    segment: Segment,
+// The line of a segment with its number: first the steps from the source to the window, then the readings that the planner enters, then
+// the reflections and the close mark.
+fn segment_line(number: usize, segment: Segment) -> ArrayString<LINE>
+    ensures { result.bytes ≡ segment_bytes number segment }
+{
+    let parts = propagation::segment_breakdown_of(segment);
+    let mut digits = Buffer::new();
+    let distance = Tenths(parts.distance).text();
+    let air = Tenths(parts.air).text();
+    let path = Tenths(parts.path).text();
+    let angle = Tenths(parts.angle).text();
+    let chart = Tenths(parts.chart).text();
+    let track = Tenths(parts.track).text();
+    let ballast = Tenths(parts.ballast).text();
+    let facade = Tenths(parts.facade).text();
+    let opposite = Tenths(parts.opposite).text();
+    joined(&[
+        "segment ",
+        digits.format(number),
+        " distance ",
+        distance.as_str(),
+        " air ",
+        air.as_str(),
+        path_name(segment),
+        path.as_str(),
+        " angle ",
+        angle.as_str(),
+        " chart ",
+        chart.as_str(),
+        " track ",
+        track.as_str(),
+        " ballast ",
+        ballast.as_str(),
+        " facade ",
+        facade.as_str(),
+        " opposite ",
+        opposite.as_str(),
+        closing(parts.close),
+    ])
 }
 
-impl fmt::Display for SegmentLine {
-    ghost output = { λ l. Some (segment_bytes l.number l.segment) };
-
-    fn fmt<W: fmt::Write>(&self, f: &mut fmt::Formatter<W>) -> fmt::Result {
-        let number = self.number;
-        let parts = propagation::segment_breakdown_of(self.segment);
-        let distance = Tenths(parts.distance);
-        let air = Tenths(parts.air);
-        let name = path_name(self.segment);
-        let path = Tenths(parts.path);
-        let angle = Tenths(parts.angle);
-        write!(
-            f,
-            "segment {number} distance {distance} air {air}{name}{path} angle {angle}"
-        )?;
-        let chart = Tenths(parts.chart);
-        let track = Tenths(parts.track);
-        let ballast = Tenths(parts.ballast);
-        write!(f, " chart {chart} track {track} ballast {ballast}")?;
-        let facade = Tenths(parts.facade);
-        let opposite = Tenths(parts.opposite);
-        let closing = closing(parts.close);
-        write!(f, " facade {facade} opposite {opposite}{closing}")
-    }
-}
-
-// A train entry with its number, its segment's and its two working cells: it is written as its line, first its steps, then the trains
-// step and the level of each period.
+// A train entry with its number, its segment's and its two working cells.
 #[derive(Clone, Copy)]
 struct EntryLine {
     number: usize,
@@ -113,52 +134,64 @@ struct EntryLine {
     night: i32,
 }
 
-impl fmt::Display for EntryLine {
-    ghost output = { λ l. Some (entry_bytes l.number l.segment l.train l.day l.night) };
-
-    fn fmt<W: fmt::Write>(&self, f: &mut fmt::Formatter<W>) -> fmt::Result {
-        let number = self.number;
-        let segment = self.segment;
+impl EntryLine {
+    // Its line: first its steps, then the trains step and the level of each period.
+    fn text(self) -> ArrayString<LINE>
+        ensures { result.bytes ≡ entry_bytes self.number self.segment self.train self.day self.night }
+    {
+        let (mut number, mut segment) = (Buffer::new(), Buffer::new());
         let parts = emission::train_breakdown_of(self.train);
-        let speed = Tenths(parts.speed);
-        let rolling = Tenths(parts.rolling);
-        let vehicles = Tenths(parts.vehicles);
-        write!(
-            f,
-            "train {number} segment {segment} speed {speed} rolling {rolling} vehicles {vehicles}"
-        )?;
+        let speed = Tenths(parts.speed).text();
+        let rolling = Tenths(parts.rolling).text();
+        let vehicles = Tenths(parts.vehicles).text();
         let by_day = Decibels(parts.trains.day);
         let by_night = Decibels(parts.trains.night);
-        write!(f, " trains by day {by_day} trains by night {by_night}")?;
-        let day = Decibels(level_of(self.day));
-        let night = Decibels(level_of(self.night));
-        write!(f, " level by day {day} level by night {night}\n")
+        let (by_day, by_night) = (by_day.text(), by_night.text());
+        let day = Decibels(level_of(self.day)).text();
+        let night = Decibels(level_of(self.night)).text();
+        joined(&[
+            "train ",
+            number.format(self.number),
+            " segment ",
+            segment.format(self.segment),
+            " speed ",
+            speed.as_str(),
+            " rolling ",
+            rolling.as_str(),
+            " vehicles ",
+            vehicles.as_str(),
+            " trains by day ",
+            by_day.as_str(),
+            " trains by night ",
+            by_night.as_str(),
+            " level by day ",
+            day.as_str(),
+            " level by night ",
+            night.as_str(),
+            "\n",
+        ])
     }
 }
 
 // A line for each segment.
-fn write_segments<W: fmt::Write>(f: &mut fmt::Formatter<W>, study: &Study) -> fmt::Result
-    ensures { WritesOnOk W.write_str_gives f.old result (segments_bytes study.now) f.new }
+fn segment_lines(study: &Study) -> ArrayString<SEGMENT_LINES>
+    ensures { result.bytes ≡ segments_bytes study.now }
 {
+    let mut lines = ArrayString::new();
     for (k, segment) in study.segments().iter().enumerate() {
         let number = k + 1;
-        let segment = *segment;
-        let line = SegmentLine { number, segment };
-        write!(f, "{line}")?;
+        lines.push_str(segment_line(number, *segment).as_str());
     }
-    Ok(())
+    lines
 }
 
 // A line for each train entry, from the cells that the request for levels leaves.
-fn write_entries<W: fmt::Write>(
-    f: &mut fmt::Formatter<W>,
-    study: &Study,
-    cells: &[i32],
-) -> fmt::Result
-    ensures { WritesOnOk W.write_str_gives f.old result (entries_bytes study.now cells.now) f.new }
+fn entry_lines(study: &Study, cells: &[i32]) -> ArrayString<ENTRY_LINES>
+    ensures { result.bytes ≡ entries_bytes study.now cells.now }
 {
     let entries = study.entries();
     let count = entries.len();
+    let mut lines = ArrayString::new();
     for (k, entry) in entries.iter().enumerate() {
         let (day, night) = (cell_at(cells, k), cell_at(cells, count + k));
         let line = EntryLine {
@@ -168,52 +201,70 @@ fn write_entries<W: fmt::Write>(
             day,
             night,
         };
-        write!(f, "{line}")?;
+        lines.push_str(line.text().as_str());
     }
-    Ok(())
+    lines
 }
 
 // A study with the cells that the request for its levels leaves: it is written as a line for each segment, and one for each train entry.
 #[derive(Drop)]
-pub struct StudyBreakdown {
-    study: Study,
+pub struct StudyBreakdown<'a> {
+    study: &'a Study,
     cells: [i32; MOST_CELLS],
 }
 
-impl fmt::Display for StudyBreakdown {
+impl StudyBreakdown<'_> {
+    // What is written of it.
+    pub fn text(&self) -> ArrayString<STUDY_LINES>
+        ensures { result.bytes ≡ study_bytes self.now }
+    {
+        let segments = segment_lines(self.study);
+        let entries = entry_lines(self.study, &self.cells);
+        joined(&[segments.as_str(), entries.as_str()])
+    }
+}
+
+impl fmt::Display for StudyBreakdown<'_> {
     ghost output = { λ b. Some (study_bytes b) };
 
-    #[tactic(auto, unfolding(crate::specs::Breakdown::study_bytes))]
     fn fmt<W: fmt::Write>(&self, f: &mut fmt::Formatter<W>) -> fmt::Result {
-        write_segments(f, &self.study)?;
-        write_entries(f, &self.study, &self.cells)
+        f.write_str(self.text().as_str())
     }
 }
 
 // The breakdown of a study.
-pub fn study_breakdown(study: Study) -> StudyBreakdown
-    ensures { StudyBrokenDown study result }
+pub fn study_breakdown(study: &Study) -> StudyBreakdown<'_>
+    ensures { StudyBrokenDown study.now result }
 {
     let mut cells = [0i32; MOST_CELLS];
-    let _ = request::levels(&study, &mut cells);
+    // Its answer is not looked at: a study without entries, the only one that is refused here, has no levels to show.
+    let _ = request::levels(study, &mut cells);
     StudyBreakdown { study, cells }
 }
 
-// A text: it is written as the lines of its study, none where it is refused, and its report.
+// A text's study and report: it is written as the lines of the study, none where the text is refused, and the report.
 #[derive(Drop)]
 pub struct TextBreakdown {
-    lines: StudyBreakdown,
+    study: Study,
     outcome: Outcome,
+}
+
+impl TextBreakdown {
+    // What is written of it.
+    pub fn text(&self) -> ArrayString<TEXT_LINES>
+        ensures { result.bytes ≡ text_bytes self.now }
+    {
+        let lines = study_breakdown(&self.study).text();
+        let report = self.outcome.text();
+        joined(&[lines.as_str(), report.as_str()])
+    }
 }
 
 impl fmt::Display for TextBreakdown {
     ghost output = { λ b. Some (text_bytes b) };
 
-    #[tactic(auto, unfolding(crate::specs::Breakdown::text_bytes))]
     fn fmt<W: fmt::Write>(&self, f: &mut fmt::Formatter<W>) -> fmt::Result {
-        let lines = &self.lines;
-        let outcome = self.outcome;
-        write!(f, "{lines}{outcome}")
+        f.write_str(self.text().as_str())
     }
 }
 
@@ -222,10 +273,7 @@ impl fmt::Display for TextBreakdown {
 fn study_in(text: &[u8]) -> Study
     ensures { result ≡ plan_in text.now }
 {
-    match text::read_text(text) {
-        Ok(study) => study,
-        Err(_) => Study::new(),
-    }
+    text::read_text(text).unwrap_or_else(|_| Study::new())
 }
 
 // The breakdown of a text.
@@ -233,7 +281,7 @@ pub fn text_breakdown(text: &[u8]) -> TextBreakdown
     ensures { BrokenDown text.now result }
 {
     TextBreakdown {
-        lines: study_breakdown(study_in(text)),
+        study: study_in(text),
         outcome: report::report(text),
     }
 }

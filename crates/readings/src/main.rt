@@ -12,19 +12,13 @@ mod merges;
 ghost use Rattle.std.specs.Prelude.{◌≤◌, length, IfOk};
 
 use memchr::memchr;
-use std::fmt::Write as _;
 use std::io;
 use std::io::Read;
-use writing::Page;
 
-// Writes the breakdown of a text, which has room on the page, at once.
+// Writes the breakdown of a text, at once.
 fn show(rt: &impl Print, text: &[u8]) -> io::Result<()> {
-    let breakdown = breakdown::text_breakdown(text);
-    let mut page = Page::<32768>::new();
-    if write!(page, "{breakdown}").is_ok() {
-        rt.print(page.as_str())?;
-    }
-    Ok(())
+    let lines = breakdown::text_breakdown(text).text();
+    rt.write_all(lines.as_str().as_bytes())
 }
 
 // Writes each text of a list under its title.

@@ -16,6 +16,9 @@ use text::Fault;
 use words::Refused;
 use writing::{Tenths, joined};
 
+// No report has more bytes than this.
+pub const MOST_BYTES: usize = 96;
+
 // A level: it is written as its figure, or as `silent`.
 #[derive(Clone, Copy)]
 pub struct Decibels(pub Level);
@@ -68,7 +71,7 @@ pub struct Outcome(pub Result<Periods<PeriodResult>, Fault>);
 
 impl Outcome {
     // What is written of it.
-    pub fn text(self) -> ArrayString<96>
+    pub fn text(self) -> ArrayString<MOST_BYTES>
         ensures { result.bytes ≡ written self }
     {
         match self.0 {

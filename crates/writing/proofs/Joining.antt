@@ -21,6 +21,10 @@ all_fit room (part ∷ rest) h =
 pub fits_as : (room : ℕ) (parts : List (List ℕ)) {bytes : List ℕ} → flatten parts ≡ bytes → length bytes ≤ room → fitting room parts ≡ bytes
 fits_as room parts e h = all_fit room parts (rw e h) ∙ e
 
+pub fits_two : (room : ℕ) (p q : List ℕ) → length p + length q ≤ room → fitting room (p ∷ q ∷ []) ≡ p ++ q
+unfolding flatten
+fits_two room p q h = fits_as room (p ∷ q ∷ []) (rw (append-nil q) refl) (rw (length-append p q) h)
+
 -- there is room for the next part, or there is not
 fits_next : (room : ℕ) (part : List ℕ) (rest : List (List ℕ)) → length part ≤ room → fitting room (part ∷ rest) ≡ part ++ fitting (room - length part) rest
 unfolding fitting

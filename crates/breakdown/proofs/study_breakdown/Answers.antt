@@ -1,5 +1,5 @@
 -- `breakdown::study_breakdown` meets its contract.
-use mathlib.Core.Path.{refl}
+use Rattle.std.proofs.Common.{refl}
 use Rattle.breakdown.specs.Breakdown.{study_bytes}
 use Rattle.breakdown.proofs.Parts.{study_is, cells_are}
 use Rattle.breakdown.proofs.study_breakdown.Goals as goal
@@ -7,5 +7,5 @@ use Rattle.breakdown.proofs.study_breakdown.Goals as goal
 pub returns : goal.returns
 unfolding study_bytes
 returns c =
-    let plan = c.args.study in
+    let plan = c.args.study.now in
     record { bytes = study_is plan (cells_are plan refl c.levels.ensures.answered.by); allowed = c.levels.ensures.answered.allowed }

@@ -5,5 +5,4 @@ use Rattle.breakdown.proofs.text_breakdown.Goals as goal
 
 pub returns : goal.returns
 unfolding text_bytes
-returns c =
-    record { bytes = text_is c.args.text.now c.study_in.ensures c.study_breakdown.ensures.bytes c.report.ensures.output; allowed = rw c.study_in.ensures at c.study_breakdown.ensures.allowed }
+returns c = record { bytes = text_is c.args.text.now c.study_in.ensures c.report.ensures.output; allowed = c.report.ensures.allowed }
