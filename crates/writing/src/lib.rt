@@ -1,9 +1,8 @@
-// How numbers are written, and parts of a text put together, and a page of fixed memory to write on.
+// How numbers are written, and parts of a text put together.
 #![tactic(auto)]
 
-ghost use Rattle.std.specs.Prelude.{◌≡◌, true, ◌++◌, Some, IsOk, ◌↔◌, map};
+ghost use Rattle.std.specs.Prelude.{◌≡◌, Some, map};
 ghost use Rattle.writing.specs.Bytes.{fitting, sign, figure_of};
-ghost use Rattle.writing.specs.Pages.{Blank, bytes_on, room, Put};
 
 use arrayvec::ArrayString;
 use itoa::Buffer;
@@ -52,55 +51,5 @@ impl fmt::Display for Tenths {
 
     fn fmt<W: fmt::Write>(&self, f: &mut fmt::Formatter<W>) -> fmt::Result {
         f.write_str(self.text().as_str())
-    }
-}
-
-// Text of at most `N` bytes. What has no room for all of it is left out, and then nothing follows it, however short.
-#[derive(Drop)]
-pub struct Page<const N: usize> {
-    text: ArrayString<N>,
-    full: bool,
-}
-
-impl<const N: usize> Page<N> {
-    // A page with nothing on it.
-    pub fn new() -> Self
-        ensures { Blank result }
-    {
-        Page {
-            text: ArrayString::new(),
-            full: false,
-        }
-    }
-
-    // Puts a part after what stands on the page, all of it or nothing.
-    pub fn put(&mut self, part: &str)
-        ensures { Put self.old part.now self.new }
-    {
-        if self.full || self.text.remaining_capacity() < part.len() {
-            self.full = true;
-        } else {
-            self.text.push_str(part);
-        }
-    }
-
-    // What stands on the page.
-    pub fn as_str(&self) -> &str
-        ensures { result.now ≡ bytes_on self.now }
-    {
-        self.text.as_str()
-    }
-}
-
-impl<const N: usize> fmt::Write for Page<N> {
-    ghost write_str_gives = { λ before part after. bytes_on after ≡ bytes_on before ++ part };
-
-    fn write_str(&mut self, part: &str) -> fmt::Result
-        ensures ok { IsOk result → bytes_on self.new ≡ bytes_on self.old ++ part.now }
-        ensures put { Put self.old part.now self.new }
-        ensures fits { IsOk result ↔ (room part.now self.old ≡ true) }
-    {
-        self.put(part);
-        if self.full { Err(fmt::Error) } else { Ok(()) }
     }
 }
