@@ -13,7 +13,7 @@ use arrayvec::ArrayString;
 use decibel::Level;
 use figures::{Segment, Train};
 use itoa::Buffer;
-use report::{Decibels, MOST_BYTES, Outcome};
+use report::{Decibels, Outcome, REPORT_BYTES};
 use request::MOST_CELLS;
 use std::fmt;
 use study::{MOST_ENTRIES, MOST_SEGMENTS, Study};
@@ -33,7 +33,7 @@ const ENTRY_LINES: usize = MOST_ENTRIES * LINE;
 pub const STUDY_LINES: usize = SEGMENT_LINES + ENTRY_LINES;
 
 // Nor those of a text and its report.
-pub const TEXT_LINES: usize = STUDY_LINES + MOST_BYTES;
+pub const TEXT_LINES: usize = STUDY_LINES + REPORT_BYTES;
 
 // The level that a working cell holds.
 #[tactic(auto, unfolding(crate::specs::Lines::cell_level))]

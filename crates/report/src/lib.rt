@@ -17,7 +17,7 @@ use words::Refused;
 use writing::{Tenths, joined};
 
 // No report has more bytes than this.
-pub const MOST_BYTES: usize = 96;
+pub const REPORT_BYTES: usize = 96;
 
 // A level: it is written as its figure, or as `silent`.
 #[derive(Clone, Copy)]
@@ -71,7 +71,7 @@ pub struct Outcome(pub Result<Periods<PeriodResult>, Fault>);
 
 impl Outcome {
     // What is written of it.
-    pub fn text(self) -> ArrayString<MOST_BYTES>
+    pub fn text(self) -> ArrayString<REPORT_BYTES>
         ensures { result.bytes ≡ written self }
     {
         match self.0 {

@@ -11,6 +11,9 @@ use std::fmt;
 use text::Fault;
 use writing::joined;
 
+// No notice has more bytes than this.
+pub const NOTICE_BYTES: usize = 450;
+
 // The rule that was not kept.
 #[tactic(auto, unfolding(crate::specs::Words::words_of))]
 fn words(refusal: Refusal) -> &'static str
@@ -83,7 +86,7 @@ pub struct Notice(pub Fault);
 
 impl Notice {
     // What is written of it.
-    pub fn text(self) -> ArrayString<450>
+    pub fn text(self) -> ArrayString<NOTICE_BYTES>
         ensures { result.bytes ≡ notice_of self.0.refusal self.0.line }
     {
         let refused = Refused(self.0).text();
