@@ -1,28 +1,18 @@
 -- How many segments and entries a text has, by its first line.
 -- Assumes nothing.
-use Rattle.std.proofs.Common.{◌≡◌, ℕ, ◌≤◌, List, [], ◌∷◌, length, None, Result, Ok, Err, sum, sym, refl, ap, ◌∙◌, arith}
-use Rattle.std.proofs.lemmas.List.Sums.{sum_by-cons}
+use Rattle.std.proofs.Common.{◌≡◌, ℕ, ◌≤◌, List, length, None, Result, Ok, Err, sum, sym, ap, ◌∙◌, arith}
 use Rattle.arrayvec.specs.ArrayVec.{ArrayVec}
 use Rattle.figures.specs.declared.Refusal.{Refusal}
 use Rattle.study.specs.Add.{ours}
 use Rattle.lines.specs.Bytes.{until, past}
 use Rattle.lines.specs.Numbers.{numbers_of}
-use Rattle.lines.specs.Contents.{sum_of_counts, contents_of, counts_of}
+use Rattle.lines.specs.Contents.{contents_of, counts_of}
 use Rattle.text.specs.Text.{read_text}
 use Rattle.text.specs.Answer.{plan_in}
 use Rattle.text.proofs.Refusals.{Given, contents_given}
 use Rattle.text.proofs.Places.{torn_refused}
 use Rattle.text.proofs.Counted.{Announces, plan_announced}
 use Rattle.drawings.specs.Private.{Announced, Unannounced}
-
--- ---- the entry counts
-
-pub counts_sum : (cs : List ℕ) → sum cs ≡ sum_of_counts cs
-unfolding sum_of_counts
-counts_sum [] = refl
-counts_sum (c ∷ cs) = omega (arith, counts_sum cs, sum_by-cons (λ (x : ℕ). x) c cs)
-
--- ---- the first line
 
 -- an accepted text's is ended
 pub torn_sizes : (text : List ℕ) → past 10 text ≡ None → Unannounced text
@@ -45,12 +35,12 @@ module _ (text : List ℕ) {line : List ℕ} (first : line ≡ until 10 text) (r
     counts_given = rw (← contents_read, q) at (contents_given ours (numbers_of (until 10 text)))
 
     pub counts_most : {list : List ℕ} → list ≡ counts.items → sum list ≤ ours.entries
-    counts_most z = rw z (omega (arith, counts_given.1, counts_sum counts.items))
+    counts_most z = rw z counts_given.1
 
     pub counted_sizes : {list : List ℕ} → list ≡ counts.items → {segments entries : ℕ} → segments ≡ length counts.items → entries ≡ sum list → Announced text (record { segments = segments; entries = entries })
     counted_sizes z n s =
         record {
           few = omega (arith, counts_most z);
           segments = λ ok. n ∙ sym (rw q at (announced ok)).1;
-          entries = λ ok. s ∙ rw z (counts_sum counts.items) ∙ sym (rw q at (announced ok)).2;
+          entries = λ ok. s ∙ ap sum z ∙ sym (rw q at (announced ok)).2;
         }

@@ -1,6 +1,7 @@
 -- Laws of the contents line: its entry counts one after another, and what each way out says of it.
 -- Assumes nothing.
-use Rattle.std.proofs.Common.{◌≡◌, ℕ, suc, ◌+◌, ◌<◌, ◌≤◌, Bool, true, false, cond, eqb, leb, List, [], ◌∷◌, ◌++◌, length, ℤ, pos, negsuc, Option, None, Some, Result, Ok, Err, sym, refl, ap, ◌∙◌, append_assoc, append-nil, arith, length-append, eq-eqb, ne_eqb, le-leb, w32, SFits, to_z, of_z, to_z-of_z, nat_abs, ◌^◌, unwrap_or}
+use Rattle.std.proofs.Common.{◌≡◌, ℕ, suc, ◌+◌, ◌<◌, ◌≤◌, Bool, true, false, cond, eqb, leb, List, [], ◌∷◌, ◌++◌, length, ℤ, pos, negsuc, Option, None, Some, Result, Ok, Err, sym, refl, ap, ◌∙◌, append_assoc, append-nil, arith, length-append, sum, eq-eqb, ne_eqb, le-leb, w32, SFits, to_z, of_z, to_z-of_z, nat_abs, ◌^◌, unwrap_or}
+use Rattle.std.proofs.lemmas.List.Sums.{sum_by-append, sum_by-cons, sum_by_push}
 use lib.Signed.{mag}
 use lib.ListN.{length-map}
 use Rattle.std.specs.Int.{FitsUnsignedBits}
@@ -10,18 +11,12 @@ use Rattle.figures.specs.declared.Refusal.TheVariants as R
 use Rattle.study.specs.Add.{Limits}
 use Rattle.lines.specs.Bytes.{split, onto}
 use Rattle.lines.specs.Numbers.{value_of, front, all_of, values_of, numbers_of, first_number, after_number}
-use Rattle.lines.specs.Contents.{entry_count, counts_in, sum_of_counts, between, in_all, contents_in, contents_of}
+use Rattle.lines.specs.Contents.{entry_count, counts_in, between, in_all, contents_in, contents_of}
 use Rattle.lines.specs.Private.{counts_read, Held, Summed, Counted}
 
 -- ---- the entry counts, one after another
 
-sum_append : (cs ds : List ℕ) → sum_of_counts (cs ++ ds) ≡ sum_of_counts cs + sum_of_counts ds
-unfolding sum_of_counts
-sum_append [] ds = omega arith
-sum_append (c ∷ cs) ds = omega (arith, sum_append cs ds)
-
-some_counts : (cs : List ℕ) → 0 < sum_of_counts cs → 0 < length cs
-unfolding sum_of_counts
+some_counts : (cs : List ℕ) → 0 < sum cs → 0 < length cs
 some_counts [] h = absurd (omega arith)
 some_counts (c ∷ cs) h = omega arith
 
@@ -65,24 +60,25 @@ unless_counted l vs e = rw e (go (between 1 l.segments (length vs)))
     go true = refl
     go false = refl
 
-over_sum : (l : Limits) (cs : List ℕ) (c : ℕ) (o : Option (List ℕ)) → l.entries < sum_of_counts cs + c → in_all l (onward cs (entry_count l.entries (pos c) o)) ≡ Err R.Contents
-unfolding front sum_of_counts
+over_sum : (l : Limits) (cs : List ℕ) (c : ℕ) (o : Option (List ℕ)) → l.entries < sum cs + c → in_all l (onward cs (entry_count l.entries (pos c) o)) ≡ Err R.Contents
+unfolding front
 over_sum l cs c o h = go (leb c l.entries) o
   where
     go : (t : Bool) (o : Option (List ℕ)) → in_all l (onward cs (cond t (front c o) None)) ≡ Err R.Contents
     go false o = refl
     go true None = refl
     go true (Some ds) =
-        let e = sum_append cs (c ∷ ds) in
-        rw (le-leb 1 (sum_of_counts (cs ++ (c ∷ ds))) (omega arith), lt-leb (sum_of_counts (cs ++ (c ∷ ds))) l.entries (omega arith))
+        let e = sum_by-append (λ (n : ℕ). n) cs (c ∷ ds) in
+        let f = sum_by-cons (λ (n : ℕ). n) c ds in
+        rw (le-leb 1 (sum (cs ++ (c ∷ ds))) (omega arith), lt-leb (sum (cs ++ (c ∷ ds))) l.entries (omega arith))
 
 -- one more, where those before are held
-module _ (l : Limits) (v : ℤ) {before : List ℕ} {sum : ℕ} where
-  exceeded : ((vs : List ℤ) → Held l vs before sum → (us : List ℤ) → counts_read l (vs ++ (v ∷ us)) ≡ Err R.Contents) → Counted l v before (Some sum) before None
+module _ (l : Limits) (v : ℤ) {before : List ℕ} {total : ℕ} where
+  exceeded : ((vs : List ℤ) → Held l vs before total → (us : List ℤ) → counts_read l (vs ++ (v ∷ us)) ≡ Err R.Contents) → Counted l v before (Some total) before None
   exceeded f vs t us = rw append_assoc (f vs t us)
 
   -- no count
-  pub exceeded_below : ((c : ℕ) → v ≡ pos c → ⊥) → Counted l v before (Some sum) before None
+  pub exceeded_below : ((c : ℕ) → v ≡ pos c → ⊥) → Counted l v before (Some total) before None
   unfolding counts_in
   exceeded_below p = exceeded (λ vs t us. unless_counted l (vs ++ (v ∷ us)) (rw (counts_onward l.entries vs (v ∷ us) _ t.are, none_below v us p)))
     where
@@ -91,27 +87,27 @@ module _ (l : Limits) (v : ℤ) {before : List ℕ} {sum : ℕ} where
       none_below (negsuc m) us p = refl
 
   module _ {c : ℕ} (p : v ≡ pos c) where
-    pub exceeded_sum : l.entries < sum + c → Counted l v before (Some sum) before None
+    pub exceeded_sum : l.entries < total + c → Counted l v before (Some total) before None
     unfolding counts_in
     exceeded_sum h = exceeded (λ vs t us. unless_counted l (vs ++ (v ∷ us))
         (rw (counts_onward l.entries vs (v ∷ us) _ t.are, p) (over_sum l before c (counts_in l.entries us) (omega (arith, t.sum_is)))))
 
-    pub held_more : length before < l.segments → sum + c ≤ l.entries → {after : List ℕ} → after ≡ before ++ (c ∷ []) → Counted l v before (Some sum) after (Some (sum + c))
-    unfolding counts_in sum_of_counts front
+    pub held_more : length before < l.segments → total + c ≤ l.entries → {after : List ℕ} → after ≡ before ++ (c ∷ []) → Counted l v before (Some total) after (Some (total + c))
+    unfolding counts_in front
     held_more h w e vs t =
         rw e (record {
           few = omega (arith, length-append before (c ∷ []));
           many = omega (arith, length-append before (c ∷ []), length-append vs (v ∷ []), t.many);
           are = rw (counts_onward l.entries vs (v ∷ []) _ t.are, p, le-leb c l.entries (omega arith));
-          sum_is = omega (arith, t.sum_is, sum_append before (c ∷ []));
+          sum_is = omega (arith, t.sum_is, sum_by_push (λ (n : ℕ). n) before c);
           within = w;
         })
 
   -- as many as there may be
-  pub exceeded_full : l.segments ≤ length before → Counted l v before (Some sum) before None
+  pub exceeded_full : l.segments ≤ length before → Counted l v before (Some total) before None
   exceeded_full h = exceeded many
     where
-      many : (vs : List ℤ) → Held l vs before sum → (us : List ℤ) → counts_read l (vs ++ (v ∷ us)) ≡ Err R.Contents
+      many : (vs : List ℤ) → Held l vs before total → (us : List ℤ) → counts_read l (vs ++ (v ∷ us)) ≡ Err R.Contents
       many vs t us =
           let k = length-append vs (v ∷ us) in
           rw (le-leb 1 (length (vs ++ (v ∷ us))) (omega arith), lt-leb (length (vs ++ (v ∷ us))) l.segments (omega (arith, t.many)))
@@ -200,16 +196,16 @@ module _ (l : Limits) (line : List ℕ) {os : List (Option ℤ)} (w : os ≡ val
     first_below n = rw first_is (none_announced l v (all_of left) n)
 
 -- the line announces m counts, and n numbers after that are read
-pub record Reached (l : Limits) (line : List ℕ) (m : ℕ) (list : List ℕ) (sum : Option ℕ) (left : List (Option ℤ)) (n : ℕ) : Type 0 where
+pub record Reached (l : Limits) (line : List ℕ) (m : ℕ) (list : List ℕ) (total : Option ℕ) (left : List (Option ℤ)) (n : ℕ) : Type 0 where
   pub vs : List ℤ
   pub so : numbers_of line ≡ onward (pos m ∷ vs) (all_of left)
   pub count : length vs ≡ n
-  pub summed : Summed l vs list sum
+  pub summed : Summed l vs list total
   pub room : n + length left ≤ length line
 
 pub reached_first : (l : Limits) (line : List ℕ) {os left : List (Option ℤ)} {v : ℤ} {m : ℕ} {list : List ℕ} → os ≡ values_of line → Some v ≡ first_number os → left ≡ after_number os → v ≡ pos m → list ≡ []
     → Reached l line m list (Some 0) left 0
-unfolding counts_in sum_of_counts
+unfolding counts_in
 reached_first l line {os} {left} {v} {m} w e q p z =
     let whole : os ≡ Some v ∷ left = taken e q in
     rw z (record {
@@ -220,8 +216,8 @@ reached_first l line {os} {left} {v} {m} w e q p z =
       room = omega (arith, words_most line, ap length w, ap length whole);
     })
 
-module _ {l : Limits} {line : List ℕ} {m : ℕ} {list : List ℕ} {sum : Option ℕ} {left : List (Option ℤ)} {n : ℕ} (r : Reached l line m list sum left n) {rest : List (Option ℤ)} (q : rest ≡ after_number left) where
-  pub reached_next : {v : ℤ} {after : List ℕ} {to : Option ℕ} → Some v ≡ first_number left → Counted l v list sum after to → Reached l line m after to rest (n + 1)
+module _ {l : Limits} {line : List ℕ} {m : ℕ} {list : List ℕ} {total : Option ℕ} {left : List (Option ℤ)} {n : ℕ} (r : Reached l line m list total left n) {rest : List (Option ℤ)} (q : rest ≡ after_number left) where
+  pub reached_next : {v : ℤ} {after : List ℕ} {to : Option ℕ} → Some v ≡ first_number left → Counted l v list total after to → Reached l line m after to rest (n + 1)
   unfolding all_of
   reached_next {v} e b =
       let z : left ≡ Some v ∷ rest = taken e q in
@@ -257,25 +253,25 @@ module _ {l : Limits} {line : List ℕ} {m : ℕ} {list : List ℕ} {sum : Optio
         as_announced = rw (read, eq-eqb m (length r.vs) (d ∙ sym r.count))
 
         -- out of range, or none in all
-        pub ended_none : unwrap_or sum 0 ≡ 0 → Err R.Contents ≡ contents_of l line
-        ended_none z = sym (as_announced ∙ go sum r.summed z)
+        pub ended_none : unwrap_or total 0 ≡ 0 → Err R.Contents ≡ contents_of l line
+        ended_none z = sym (as_announced ∙ go total r.summed z)
           where
             go : (s : Option ℕ) → Summed l r.vs list s → unwrap_or s 0 ≡ 0 → counts_read l r.vs ≡ Err R.Contents
             go None t z = rw append-nil at (t [])
-            go (Some s) t z = unless_counted l r.vs (rw t.are (rw (lt-leb 1 (sum_of_counts list) (omega (arith, t.sum_is)))))
+            go (Some s) t z = unless_counted l r.vs (rw t.are (rw (lt-leb 1 (sum list) (omega (arith, t.sum_is)))))
 
-        pub ended_good : (unwrap_or sum 0 ≡ 0 → ⊥) → Ok list ≡ contents_of l line
-        ended_good z = sym (as_announced ∙ go sum r.summed z)
+        pub ended_good : (unwrap_or total 0 ≡ 0 → ⊥) → Ok list ≡ contents_of l line
+        ended_good z = sym (as_announced ∙ go total r.summed z)
           where
             go : (s : Option ℕ) → Summed l r.vs list s → (unwrap_or s 0 ≡ 0 → ⊥) → counts_read l r.vs ≡ Ok list
             go None t z = absurd (z refl)
             go (Some s) t z =
-                let some : 0 < sum_of_counts list = omega (arith, t.sum_is, z) in
+                let some : 0 < sum list = omega (arith, t.sum_is, z) in
                 let few : length r.vs ≤ l.segments = omega (arith, t.many, t.few) in
                 rw (
                   le-leb 1 (length r.vs) (omega (arith, t.many, some_counts list some)),
                   le-leb (length r.vs) l.segments few,
                   t.are,
-                  le-leb 1 (sum_of_counts list) some,
-                  le-leb (sum_of_counts list) l.entries (omega (arith, t.sum_is, t.within)),
+                  le-leb 1 (sum list) some,
+                  le-leb (sum list) l.entries (omega (arith, t.sum_is, t.within)),
                 )

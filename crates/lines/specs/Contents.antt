@@ -1,6 +1,6 @@
 -- The contents, a text's first line (01, "The text": "the segment count (1 to 24), then each segment's entry count (0 to 96), in all 1 to 96"), over any limits.
 -- Assumes nothing.
-use Rattle.std.specs.Prelude.{ℕ, ◌+◌, Bool, false, cond, ◌&&◌, List, [], ◌∷◌, length, ℤ, pos, negsuc, Option, None, Some, Result, Ok, Err, ◌==◌, nat_le}
+use Rattle.std.specs.Prelude.{ℕ, Bool, false, cond, ◌&&◌, List, [], ◌∷◌, length, sum, ℤ, pos, negsuc, Option, None, Some, Result, Ok, Err, ◌==◌, nat_le}
 use Rattle.std.specs.Result.{result_map_both}
 use Rattle.arrayvec.specs.ArrayVec.{ArrayVec}
 use Rattle.figures.specs.declared.Refusal.{Refusal}
@@ -22,10 +22,6 @@ unfoldable pub counts_in : ℕ → List ℤ → Option (List ℕ)
 counts_in most [] = Some []
 counts_in most (v ∷ vs) = entry_count most v (counts_in most vs)
 
-unfoldable pub sum_of_counts : List ℕ → ℕ
-sum_of_counts [] = 0
-sum_of_counts (c ∷ cs) = c + sum_of_counts cs
-
 -- low to high
 abbrev pub between : ℕ → ℕ → ℕ → Bool
 between low high n = nat_le low n && nat_le n high
@@ -33,7 +29,7 @@ between low high n = nat_le low n && nat_le n high
 -- in all 1 to as many as a study may hold, else out of range
 abbrev pub in_all : Limits → Option (List ℕ) → Result (List ℕ) Refusal
 in_all l None = Err Contents
-in_all l (Some cs) = cond (between 1 l.entries (sum_of_counts cs)) (Ok cs) (Err Contents)
+in_all l (Some cs) = cond (between 1 l.entries (sum cs)) (Ok cs) (Err Contents)
 
 -- every number's form and their count come before any range. A line has at least one word, so the second case does not arise
 abbrev pub contents_in : Limits → Option (List ℤ) → Result (List ℕ) Refusal

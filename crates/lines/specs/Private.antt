@@ -1,22 +1,22 @@
 -- What private contracts alone cite: the entry counts of a contents line, one after another.
 -- Assumes nothing.
-use Rattle.std.specs.Prelude.{◌≡◌, ℕ, ◌≤◌, cond, List, [], ◌∷◌, ◌++◌, length, ℤ, Option, None, Some, Result, Err}
+use Rattle.std.specs.Prelude.{◌≡◌, ℕ, ◌≤◌, cond, List, [], ◌∷◌, ◌++◌, length, sum, ℤ, Option, None, Some, Result, Err}
 use Rattle.figures.specs.declared.Refusal.{Refusal}
 use Rattle.figures.specs.declared.Refusal.TheVariants.{Contents}
 use Rattle.study.specs.Add.{Limits}
-use Rattle.lines.specs.Contents.{counts_in, sum_of_counts, between, in_all}
+use Rattle.lines.specs.Contents.{counts_in, between, in_all}
 
 -- what entry counts give, all of the right form and as many as announced
 abbrev pub counts_read : Limits → List ℤ → Result (List ℕ) Refusal
 counts_read l vs = cond (between 1 l.segments (length vs)) (in_all l (counts_in l.entries vs)) (Err Contents)
 
 -- the numbers vs are entry counts in range, of that sum
-pub record Held (l : Limits) (vs : List ℤ) (list : List ℕ) (sum : ℕ) : Type 0 where
+pub record Held (l : Limits) (vs : List ℤ) (list : List ℕ) (total : ℕ) : Type 0 where
   pub few : length list ≤ l.segments
   pub many : length vs ≡ length list
   pub are : counts_in l.entries vs ≡ Some list
-  pub sum_is : sum ≡ sum_of_counts list
-  pub within : sum ≤ l.entries
+  pub sum_is : total ≡ sum list
+  pub within : total ≤ l.entries
 
 -- they are held, or they are out of range whatever follows them
 abbrev pub Summed : Limits → List ℤ → List ℕ → Option ℕ → Type 0

@@ -21,9 +21,9 @@ use Rattle.lines.specs.Numbers.{numbers_of}
 use Rattle.figures.specs.declared.Segment.{Segment}
 use Rattle.figures.specs.declared.Train.{Train}
 use Rattle.figures.specs.declared.Refusal.{Refusal}
-use Rattle.std.specs.Prelude.{Option, None, Some, Result, Ok, Err}
+use Rattle.std.specs.Prelude.{Option, None, Some, Result, Ok, Err, sum}
 use Rattle.lines.specs.Lines.{segment_of, train_of}
-use Rattle.lines.specs.Contents.{is_count, counts_in, sum_of_counts, between, in_all, contents_in, contents_of}
+use Rattle.lines.specs.Contents.{is_count, counts_in, between, in_all, contents_in, contents_of}
 use Rattle.text.specs.Text.{Reading, Line, ended, unended, lines_of, Kind, segment_kind, train_kind, kinds_of, segment_adds, train_adds, add_line, refused_at, read_lines, read_body, read_from, read_text}
 use Rattle.text.specs.Additions.{additions_of}
 use Rattle.text.proofs.Runs.{after-accepted, accepted_text_is_run}
@@ -72,12 +72,12 @@ lines_ahead l st k (p ∷ ps) (x ∷ xs) e =
 
 abbrev HasEntry : Result (List ℕ) Refusal → Type 0
 HasEntry (Err r) = Unit {0}
-HasEntry (Ok cs) = 0 < sum_of_counts cs
+HasEntry (Ok cs) = 0 < sum cs
 
 -- so many segments and entries are what the contents announce
 abbrev pub Announces : Result (List ℕ) Refusal → ℕ → ℕ → Type 0
 Announces (Err r) segments entries = ⊥
-Announces (Ok cs) segments entries = (0 < entries) × (segments ≡ length cs) × (entries ≡ sum_of_counts cs)
+Announces (Ok cs) segments entries = (0 < entries) × (segments ≡ length cs) × (entries ≡ sum cs)
 
 some_entry : (r : Result (List ℕ) Refusal) (segments entries : ℕ) → Announces r segments entries → 0 < entries
 some_entry (Err r) segments entries a = absurd a
@@ -86,10 +86,10 @@ some_entry (Ok cs) segments entries a = a.0
 module _ (l : Limits) where
   in_all_some : (o : Option (List ℕ)) → HasEntry (in_all l o)
   in_all_some None = tt
-  in_all_some (Some cs) = go (leb 1 (sum_of_counts cs)) (leb (sum_of_counts cs) l.entries) refl
+  in_all_some (Some cs) = go (leb 1 (sum cs)) (leb (sum cs) l.entries) refl
     where
-      go : (a b : Bool) → leb 1 (sum_of_counts cs) ≡ a → HasEntry (cond (a && b) (Ok cs) (Err R.Contents))
-      go true true e = leb-true 1 (sum_of_counts cs) e
+      go : (a b : Bool) → leb 1 (sum cs) ≡ a → HasEntry (cond (a && b) (Ok cs) (Err R.Contents))
+      go true true e = leb-true 1 (sum cs) e
       go true false e = tt
       go false b e = tt
 

@@ -22,9 +22,10 @@ use Rattle.study.specs.declared.Entry.{Entry}
 use Rattle.study.specs.Plan.{Plan, empty_plan}
 use Rattle.study.specs.Add.{Limits, Added, segment_limit, segment_answer, train_limit, train_answer, with_segment, with_train, answer, add_segment, add_train}
 use Rattle.lines.specs.Numbers.{front, numbers_of}
-use Rattle.std.specs.Prelude.{Option, None, Some, Result, Ok, Err}
+use Rattle.std.specs.Prelude.{Option, None, Some, Result, Ok, Err, sum}
+use Rattle.std.proofs.lemmas.List.Sums.{sum_by-cons}
 use Rattle.lines.specs.Lines.{segment_of, train_of}
-use Rattle.lines.specs.Contents.{is_count, counts_in, sum_of_counts, between, in_all, contents_in, contents_of}
+use Rattle.lines.specs.Contents.{is_count, counts_in, between, in_all, contents_in, contents_of}
 use Rattle.text.specs.Text.{Reading, Line, ended, unended, lines_of, Kind, segment_kind, train_kind, trains, kinds_of, refused_addition, segment_adds, train_adds, add_line, refused_at, after, read_lines, read_body, read_from, read_text}
 
 -- accepted, or refused by a number up to 13
@@ -154,10 +155,10 @@ unfolding kinds_of
 kinds_segments [] = refl
 kinds_segments (c ∷ cs) = ap suc (trains_segments c (kinds_of cs) ∙ kinds_segments cs)
 
-pub kinds_trains : (cs : List ℕ) → trains_in (kinds_of cs) ≡ sum_of_counts cs
-unfolding kinds_of sum_of_counts
+pub kinds_trains : (cs : List ℕ) → trains_in (kinds_of cs) ≡ sum cs
+unfolding kinds_of
 kinds_trains [] = refl
-kinds_trains (c ∷ cs) = trains-trains c (kinds_of cs) ∙ ap (λ (n : ℕ). c + n) (kinds_trains cs)
+kinds_trains (c ∷ cs) = trains-trains c (kinds_of cs) ∙ ap (λ (n : ℕ). c + n) (kinds_trains cs) ∙ sym (sum_by-cons (λ (x : ℕ). x) c cs)
 
 -- as many counts as there are numbers
 abbrev Long : ℕ → Option (List ℕ) → Type 0
@@ -182,7 +183,7 @@ counts_long most (pos c ∷ vs) = go (leb c most) (front_long (length vs) c (cou
 -- what the contents give
 abbrev pub Given : Limits → Result (List ℕ) Refusal → Type 0
 Given l (Err r) = number_of r ≤ 13
-Given l (Ok cs) = (length cs ≤ l.segments) × (sum_of_counts cs ≤ l.entries)
+Given l (Ok cs) = (length cs ≤ l.segments) × (sum cs ≤ l.entries)
 
 within : (low high n : ℕ) → between low high n ≡ true → n ≤ high
 within low high n e = leb-true n high (right (leb low n) (leb n high) e)
@@ -195,10 +196,10 @@ module _ (l : Limits) where
   in_all_given : (n : ℕ) → n ≤ l.segments → (o : Option (List ℕ)) → Long n o → Given l (in_all l o)
   unfolding number_of
   in_all_given n h None q = omega arith
-  in_all_given n h (Some cs) q = go (between 1 l.entries (sum_of_counts cs)) refl
+  in_all_given n h (Some cs) q = go (between 1 l.entries (sum cs)) refl
     where
-      go : (t : Bool) → between 1 l.entries (sum_of_counts cs) ≡ t → Given l (cond t (Ok cs) (Err R.Contents))
-      go true e = (omega arith, within 1 l.entries (sum_of_counts cs) e)
+      go : (t : Bool) → between 1 l.entries (sum cs) ≡ t → Given l (cond t (Ok cs) (Err R.Contents))
+      go true e = (omega arith, within 1 l.entries (sum cs) e)
       go false e = omega arith
 
   pub contents_given : (o : Option (List ℤ)) → Given l (contents_in l o)
