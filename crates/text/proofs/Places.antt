@@ -2,6 +2,9 @@
 -- Assumes nothing.
 use Rattle.std.proofs.Common.{◌≡◌, ℕ, suc, ◌<◌, Bool, true, false, cond, eqb, leb, Ok, List, [], ◌∷◌, length, Option, None, Some, sym, refl, ap, ◌∙◌, arith, eqb-true}
 use borrow.Author.Tests.{eqb-false}
+use Rattle.std.specs.Borrow.{Bor}
+use Rattle.std.specs.Option.{MatchOption, ok_or}
+use Rattle.std.specs.Result.{MatchResult}
 use Rattle.figures.specs.declared.Refusal.TheVariants as R
 use Rattle.figures.proofs.Kept.{refused_not}
 use Rattle.study.specs.Add.{ours}
@@ -79,6 +82,12 @@ pub nothing_next : (text : List ℕ) → true ≡ eqb (length text) 0 → NoLine
 unfolding first_adds
 nothing_next [] e = record { adds = λ kind st. rw empty_lines; opens = rw empty_lines }
 nothing_next (b ∷ bs) e = let none = eqb-true (length (b ∷ bs)) 0 (sym e) in absurd (omega arith)
+
+-- as `ok_or` gives it of the split
+pub line_split : (text : List ℕ) → false ≡ eqb (length text) 0 → (o : Option (Bor (List ℕ) × Bor (List ℕ))) → MatchOption o (past 10 text ≡ None) (λ r. (r.0.now ≡ until 10 text) × (past 10 text ≡ Some r.1.now))
+    → MatchResult (ok_or o R.Form) (λ r. NextLine text r.0.now r.1.now) (λ f. NoLine text f)
+line_split text some None e = line_none text e some
+line_split text some (Some r) e = line_next text e
 
 -- an accepted text has a first line
 pub torn_refused : (text : List ℕ) → past 10 text ≡ None → (read_text ours text).check ≡ Ok tt → ⊥

@@ -11,14 +11,14 @@ use Rattle.figures.proofs.Kept.{refused_not}
 use Rattle.propagation.specs.declared.Propagation.{Propagation}
 use Rattle.propagation.specs.Propagation.{propagation_of}
 use Rattle.study.specs.declared.Entry.{Entry}
-use Rattle.study.specs.Plan.{Plan, empty_plan}
+use Rattle.study.specs.Plan.{Plan}
 use Rattle.study.specs.Add.{ours, segment_answer, train_answer, with_segment, with_train, add_segment, add_train}
 use Rattle.study.proofs.Additions.{answer_check, segment_taken, train_taken}
 use Rattle.figures.specs.declared.Segment.{Segment}
 use Rattle.std.specs.Prelude.{Option, None, Some, Ok}
 use Rattle.lines.specs.Lines.{segment_of, train_of}
-use Rattle.text.specs.Text.{Line, ended, unended, lines_of, Kind, segment_kind, train_kind, kinds_of, segment_adds, train_adds, add_line, refused_at, read_lines}
-use Rattle.text.specs.Private.{SegmentTaken, SegmentFault, TrainTaken, TrainFault}
+use Rattle.text.specs.Text.{Line, ended, unended, Kind, segment_kind, train_kind, segment_adds, train_adds, add_line, refused_at}
+use Rattle.text.specs.Private.{body_reading, SegmentTaken, SegmentFault, TrainTaken, TrainFault}
 use Rattle.text.proofs.Rest.{Rest, rest_next, rest_refused}
 use Rattle.text.proofs.Worked.{WorkedTo, worked_segment, worked_train}
 
@@ -73,7 +73,7 @@ module _ {text counts : List ℕ} {added : List Propagation} {entries : List Ent
             worked = worked_segment r.worked (omega (arith, segment_place)) w.segment w.adds;
           }
 
-    pub segment_at_fault : {f : Refusal} → SegmentFault n rest f → read_lines ours empty_plan 2 (kinds_of counts) (lines_of text) ≡ refused_at f k
+    pub segment_at_fault : {f : Refusal} → SegmentFault n rest f → body_reading counts text ≡ refused_at f k
     segment_at_fault w = rest_refused r.left (w r.study r.worked.count)
 
   -- a train line
@@ -96,5 +96,5 @@ module _ {text counts : List ℕ} {added : List Propagation} {entries : List Ent
             worked = worked_train r.worked (omega (arith, train_place)) j h x;
           }
 
-    pub train_at_fault : {f : Refusal} → TrainFault n t rest f → read_lines ours empty_plan 2 (kinds_of counts) (lines_of text) ≡ refused_at f k
+    pub train_at_fault : {f : Refusal} → TrainFault n t rest f → body_reading counts text ≡ refused_at f k
     train_at_fault w = rest_refused r.left (w r.study r.worked.count total)

@@ -8,7 +8,7 @@ use Rattle.figures.specs.declared.Refusal.TheVariants as R
 use Rattle.study.specs.Plan.{Plan, empty_plan}
 use Rattle.study.specs.Add.{ours}
 use Rattle.text.specs.Text.{Line, lines_of, Kind, segment_kind, train_kind, trains, kinds_of, accepted_with, refused_at, read_lines}
-use Rattle.text.specs.Private.{LineRefused, Took, first_adds}
+use Rattle.text.specs.Private.{body_reading, LineRefused, Took, first_adds}
 use Rattle.text.proofs.Places.{View, at_end, at_torn, at_line, view, past_shorter}
 
 -- a first line that is refused is at fault
@@ -41,7 +41,7 @@ module _ (st : Plan) (text : List ℕ) (k : ℕ) where
 
 pub record Rest (text counts : List ℕ) (st : Plan) (rest : List ℕ) (k : ℕ) (ps : List Kind) : Type 0 where
   pub bound : k + length rest ≤ length text + 2
-  pub whole : read_lines ours empty_plan 2 (kinds_of counts) (lines_of text) ≡ read_lines ours st k ps (lines_of rest)
+  pub whole : body_reading counts text ≡ read_lines ours st k ps (lines_of rest)
 
 pub rest_start : (text counts : List ℕ) {st : Plan} → st ≡ empty_plan → Rest text counts st text 2 (kinds_of counts)
 rest_start text counts e = rw e (record { bound = omega arith; whole = refl })
@@ -70,7 +70,7 @@ module _ {text counts : List ℕ} {st : Plan} {rest : List ℕ} {k : ℕ} where
     rest_after h = let e : n - j ≡ 0 = omega arith in rw e at r
 
   module _ {p : Kind} {ps : List Kind} (r : Rest text counts st rest k (p ∷ ps)) where
-    pub rest_refused : {f : Refusal} → LineRefused p st rest f → read_lines ours empty_plan 2 (kinds_of counts) (lines_of text) ≡ refused_at f k
+    pub rest_refused : {f : Refusal} → LineRefused p st rest f → body_reading counts text ≡ refused_at f k
     rest_refused e = r.whole ∙ read_fault p st k ps (lines_of rest) e
 
     pub rest_next : {next : List ℕ} {new : Plan} → Took p st rest next new → Rest text counts new next (k + 1) ps
@@ -79,8 +79,8 @@ module _ {text counts : List ℕ} {st : Plan} {rest : List ℕ} {k : ℕ} where
         record { bound = omega (arith, w.ahead, r.bound); whole = r.whole ∙ rw (w.lines, w.accepted, w.is) }
 
   module _ (r : Rest text counts st rest k []) where
-    pub rest_over : false ≡ eqb (length rest) 0 → read_lines ours empty_plan 2 (kinds_of counts) (lines_of text) ≡ refused_at R.Contents k
+    pub rest_over : false ≡ eqb (length rest) 0 → body_reading counts text ≡ refused_at R.Contents k
     rest_over h = r.whole ∙ read_over st rest k h
 
-    pub rest_done : true ≡ eqb (length rest) 0 → read_lines ours empty_plan 2 (kinds_of counts) (lines_of text) ≡ accepted_with st
+    pub rest_done : true ≡ eqb (length rest) 0 → body_reading counts text ≡ accepted_with st
     rest_done h = r.whole ∙ read_done st rest k h

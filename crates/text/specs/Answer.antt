@@ -8,7 +8,7 @@ use Rattle.request.specs.declared.PeriodResult.{PeriodResult}
 use Rattle.study.specs.Plan.{Plan}
 use Rattle.study.specs.Add.{ours}
 use Rattle.request.specs.Levels.{own_marks, MarksAllowed}
-use Rattle.request.specs.Request.{Answer, levels_check, levels_number, answer_by, cells_by}
+use Rattle.request.specs.Request.{levels_check, levels_number, answer_by, cells_by}
 use Rattle.text.specs.declared.Fault.{Fault}
 use Rattle.text.specs.Text.{Reading, accepted_with, refused_at, read_text}
 
@@ -24,19 +24,20 @@ unfoldable pub check_at : {A : Type 0} → Result A Fault → Check
 check_at (Ok _) = Ok tt
 check_at (Err f) = Err f.refusal
 
+-- a refusal at a line
+abbrev pub refused_line : {A : Type 0} → Refusal → ℕ → Result A Fault
+refused_line why line = Err (record { refusal = why; line = line })
+
+-- an answer with the line of the text that it concerns
+abbrev pub at_line : {A : Type 0} → ℕ → Result A Refusal → Result A Fault
+at_line line (Ok value) = Ok value
+at_line line (Err why) = refused_line why line
+
 -- ---- the answer
 
 -- both periods' results, or a refusal with its line
 abbrev pub TextAnswer : Type 0
 TextAnswer = Result (Periods PeriodResult) Fault
-
-abbrev pub refused_line : Refusal → ℕ → TextAnswer
-refused_line why line = Err (record { refusal = why; line = line })
-
--- an answer with the line of the text that it concerns
-abbrev pub at_line : ℕ → Answer → TextAnswer
-at_line line (Ok both) = Ok both
-at_line line (Err why) = refused_line why line
 
 -- so much of a reading with so many cells: a refused text's refusal and line, else the request over its study. An accepted text's line is 0
 unfoldable pub answer_with : Check → ℕ → Plan → ℕ → TextAnswer

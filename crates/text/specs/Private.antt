@@ -7,12 +7,16 @@ use Rattle.figures.specs.declared.Refusal.{Refusal}
 use Rattle.figures.specs.declared.Refusal.TheVariants.{Contents}
 use Rattle.propagation.specs.declared.Propagation.{Propagation}
 use Rattle.propagation.specs.Propagation.{propagation_of}
-use Rattle.study.specs.Plan.{Plan}
+use Rattle.study.specs.Plan.{Plan, empty_plan}
 use Rattle.study.specs.Add.{ours, with_segment, with_train}
 use Rattle.request.specs.Levels.{own_marks, MarksAllowed}
-use Rattle.text.specs.Text.{Reading, Line, ended, lines_of, Kind, segment_kind, train_kind, add_line, refused_at, read_from}
+use Rattle.text.specs.Text.{Reading, Line, ended, lines_of, Kind, segment_kind, train_kind, kinds_of, add_line, refused_at, read_lines, read_from}
 use Rattle.text.specs.Answer.{TextAnswer, answer_with, cells_with}
 use Rattle.figures.specs.Refusal.{Check}
+
+-- the reading of the lines after the contents
+abbrev pub body_reading : List ℕ → List ℕ → Reading
+body_reading counts text = read_lines ours empty_plan 2 (kinds_of counts) (lines_of text)
 
 -- ---- the next line
 

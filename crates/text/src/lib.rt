@@ -4,10 +4,9 @@
 ghost use Rattle.std.specs.Prelude.{◌≡◌, length, MatchResult};
 ghost use Rattle.figures.specs.Refusal.{check_number};
 ghost use Rattle.study.specs.Add.{ours};
-ghost use Rattle.study.specs.Plan.{empty_plan};
-ghost use Rattle.text.specs.Text.{segment_kind, train_kind, accepted_with, refused_at, read_lines, kinds_of, lines_of, read_from, read_text};
+ghost use Rattle.text.specs.Text.{segment_kind, train_kind, refused_at, lines_of, read_from, read_text};
 ghost use Rattle.text.specs.Answer.{reading_of, check_at, text_number, text_answer_number, TextAnswered};
-ghost use Rattle.text.specs.Private.{NextLine, NoLine, LineRefused, Took, SegmentTaken, SegmentFault, TrainTaken, TrainFault, Answers};
+ghost use Rattle.text.specs.Private.{body_reading, NextLine, NoLine, LineRefused, Took, SegmentTaken, SegmentFault, TrainTaken, TrainFault, Answers};
 
 use arrayvec::ArrayVec;
 use figures::{Periods, Refusal, Train};
@@ -38,10 +37,7 @@ fn next_line(text: &[u8]) -> Result<(&[u8], &[u8]), Refusal>
     if text.is_empty() {
         return Err(Refusal::Contents);
     }
-    match split_line(text) {
-        Some(found) => Ok(found),
-        None => Err(Refusal::Form),
-    }
+    split_line(text).ok_or(Refusal::Form)
 }
 
 // The next line is a segment's: it is added to the study, and what follows is left.
@@ -72,7 +68,7 @@ fn add_train_line<'a>(text: &'a [u8], study: &mut Study) -> Result<&'a [u8], Ref
 
 // The lines after the contents, each added to the study in turn.
 fn read_lines(text: &[u8], counts: &[usize]) -> Result<Study, Fault>
-    ensures { MatchResult result (λ st. read_lines ours empty_plan 2 (kinds_of counts.now) (lines_of text.now) ≡ accepted_with st) (λ f. read_lines ours empty_plan 2 (kinds_of counts.now) (lines_of text.now) ≡ refused_at f.refusal f.line) }
+    ensures { reading_of result ≡ body_reading counts.now text.now }
 {
     let mut study = Study::new();
     let mut rest = text;
@@ -105,7 +101,7 @@ fn read_lines(text: &[u8], counts: &[usize]) -> Result<Study, Fault>
 
 // The contents and the lines after them, or why line 1 is refused.
 fn read_contents(text: &[u8]) -> Result<(ArrayVec<usize, MOST_SEGMENTS>, &[u8]), Refusal>
-    ensures { MatchResult result (λ r. read_from ours (lines_of text.now) ≡ read_lines ours empty_plan 2 (kinds_of r.0.items) (lines_of r.1.now)) (λ f. read_from ours (lines_of text.now) ≡ refused_at f 1) }
+    ensures { MatchResult result (λ r. read_from ours (lines_of text.now) ≡ body_reading r.0.items r.1.now) (λ f. read_from ours (lines_of text.now) ≡ refused_at f 1) }
 {
     let (line, rest) = next_line(text)?;
     let counts = contents_of(line, MOST_ENTRIES)?;
@@ -114,7 +110,7 @@ fn read_contents(text: &[u8]) -> Result<(ArrayVec<usize, MOST_SEGMENTS>, &[u8]),
 
 // The same, and before it the text's size.
 fn read_opening(text: &[u8]) -> Result<(ArrayVec<usize, MOST_SEGMENTS>, &[u8]), Fault>
-    ensures { MatchResult result (λ r. read_text ours text.now ≡ read_lines ours empty_plan 2 (kinds_of r.0.items) (lines_of r.1.now)) (λ e. read_text ours text.now ≡ refused_at e.refusal e.line) }
+    ensures { MatchResult result (λ r. read_text ours text.now ≡ body_reading r.0.items r.1.now) (λ e. read_text ours text.now ≡ refused_at e.refusal e.line) }
 {
     if MOST_BYTES < text.len() {
         return Err(Fault {
@@ -122,10 +118,7 @@ fn read_opening(text: &[u8]) -> Result<(ArrayVec<usize, MOST_SEGMENTS>, &[u8]), 
             line: 0,
         });
     }
-    match read_contents(text) {
-        Ok(opening) => Ok(opening),
-        Err(refusal) => Err(Fault { refusal, line: 1 }),
-    }
+    read_contents(text).map_err(|refusal| Fault { refusal, line: 1 })
 }
 
 // A whole text: its study, or the first line at fault.
@@ -171,7 +164,7 @@ fn answer_lines(
     counts: &[usize],
     cells: &mut [i32],
 ) -> Result<Periods<PeriodResult>, Fault>
-    ensures { Answers (read_lines ours empty_plan 2 (kinds_of counts.now) (lines_of text.now)) cells.old cells.new result }
+    ensures { Answers (body_reading counts.now text.now) cells.old cells.new result }
 {
     let mut added: ArrayVec<Propagation, MOST_SEGMENTS> = ArrayVec::new();
     let mut entries: ArrayVec<Entry, MOST_ENTRIES> = ArrayVec::new();
