@@ -17,13 +17,13 @@ use Rattle.study.specs.Run.{accepted}
 use Rattle.study.proofs.Runs.{run-accepted}
 use Rattle.text.specs.Text.{read_text}
 use Rattle.text.specs.Additions.{additions_of}
-use Rattle.text.specs.Answer.{plan_in}
+use Rattle.text.specs.Answer.{check_at, line_at, refused_line, at_line, plan_in}
 use Rattle.text.proofs.Runs.{accepted_text_is_run, accepted_line, text_held}
 use Rattle.text.proofs.Refusals.{text_refusal_is_own}
-use Rattle.speeds.specs.Speeds.{SpeedAnswer, speed_answer}
+use Rattle.speeds.specs.Speeds.{SpeedAnswer, speed_of, speed_answer}
 use Rattle.speeds.specs.Laws.{IsEntry, BelowAt, Highest}
 use Rattle.speeds.proofs.Laws.{speed_laws}
-use Rattle.text_speeds.specs.TextSpeeds.{refused_speed, speed_at_line, speed_with, text_speed}
+use Rattle.text_speeds.specs.TextSpeeds.{speed_with, text_speed}
 use Rattle.railnoise_requests_c.specs.declared.RailnoiseSpeedAnswer.{RailnoiseSpeedAnswer}
 use Rattle.railnoise_requests_c.specs.Speed.{period_by, exported_speed, SpeedCalled, SpeedSafe, OfAcceptedText, SpeedCalls}
 use Rattle.railnoise_requests_c.proofs.Refusals.{number_some}
@@ -35,11 +35,11 @@ listed_is text ok = accepted_text_is_run ours text ok ∙ run-accepted ours (add
 
 module _ (text : List ℕ) (entry : ℕ) (p : Period) (limit : ℤ) where
   -- a refused text, and an accepted one
-  refused_is : {why : Refusal} → (read_text ours text).check ≡ Err why → text_speed text entry p limit ≡ refused_speed why (read_text ours text).line
+  refused_is : {why : Refusal} → (read_text ours text).check ≡ Err why → text_speed text entry p limit ≡ refused_line why (read_text ours text).line
   unfolding text_speed speed_with
   refused_is e = rw e
 
-  accepted_is : {r : SpeedAnswer} → (read_text ours text).check ≡ Ok tt → speed_answer (plan_in text) entry p limit ≡ r → text_speed text entry p limit ≡ speed_at_line 0 r
+  accepted_is : {r : SpeedAnswer} → (read_text ours text).check ≡ Ok tt → speed_answer (plan_in text) entry p limit ≡ r → text_speed text entry p limit ≡ at_line 0 r
   unfolding text_speed speed_with
   accepted_is ok is = rw (ok, accepted_line ours text ok, is) refl
 
@@ -73,14 +73,14 @@ module _ (text : List ℕ) (entry : ℕ) (night : Bool) (limit : ℤ) (r : Railn
   p = period_by night
 
   -- what C gets of a refused text, and of an accepted one
-  of_refused : {why : Refusal} → (read_text ours text).check ≡ Err why → r ≡ exported_speed (refused_speed why (read_text ours text).line)
+  of_refused : {why : Refusal} → (read_text ours text).check ≡ Err why → r ≡ exported_speed (refused_line why (read_text ours text).line)
   of_refused e = call.answer ∙ ap exported_speed (refused_is text entry p limit e)
 
-  of_plan : {d : SpeedAnswer} → (read_text ours text).check ≡ Ok tt → speed_answer (plan_in text) entry p limit ≡ d → r ≡ exported_speed (speed_at_line 0 d)
+  of_plan : {d : SpeedAnswer} → (read_text ours text).check ≡ Ok tt → speed_answer (plan_in text) entry p limit ≡ d → r ≡ exported_speed (at_line 0 d)
   of_plan ok e = call.answer ∙ ap exported_speed (accepted_is text entry p limit ok e)
 
   answered_law : r.refusal ≡ 0 → (r.line ≡ 0) × SpeedSafe (accepted ours (additions_of ours text)) entry p limit r.speed
-  unfolding exported_speed
+  unfolding exported_speed check_at line_at speed_of check_number
   answered_law z = go (read_text ours text).check refl (speed_answer (plan_in text) entry p limit) refl
     where
       go : (c : Check) → (read_text ours text).check ≡ c → (d : SpeedAnswer) → speed_answer (plan_in text) entry p limit ≡ d → (r.line ≡ 0) × SpeedSafe (accepted ours (additions_of ours text)) entry p limit r.speed
@@ -91,11 +91,11 @@ module _ (text : List ℕ) (entry : ℕ) (night : Bool) (limit : ℤ) (r : Railn
           (ap (λ (x : RailnoiseSpeedAnswer). x.line) is, rw (ap (λ (x : RailnoiseSpeedAnswer). x.speed) is) (safe_in text entry p limit e f))
 
   refused_law : (r.refusal ≡ 0 → ⊥) → (r.speed ≡ 0) × ((r.refusal ≤ 13) ⊎ OfAcceptedText text r)
-  unfolding exported_speed number_of
+  unfolding exported_speed check_at line_at speed_of check_number number_of
   refused_law some = go (read_text ours text).check refl (speed_answer (plan_in text) entry p limit) refl
     where
       -- one of the two that a plan is refused with
-      told : {why : Refusal} → (read_text ours text).check ≡ Ok tt → r ≡ exported_speed (speed_at_line 0 (Err why)) → (why ≡ EntryNumber) ⊎ (why ≡ NoSpeed) → OfAcceptedText text r
+      told : {why : Refusal} → (read_text ours text).check ≡ Ok tt → r ≡ exported_speed (at_line 0 (Err why)) → (why ≡ EntryNumber) ⊎ (why ≡ NoSpeed) → OfAcceptedText text r
       told ok is (inl e) = record { accepted = ok; line = ap (λ (x : RailnoiseSpeedAnswer). x.line) is; number = inl (ap (λ (x : RailnoiseSpeedAnswer). x.refusal) is ∙ ap number_of e) }
       told ok is (inr e) = record { accepted = ok; line = ap (λ (x : RailnoiseSpeedAnswer). x.line) is; number = inr (ap (λ (x : RailnoiseSpeedAnswer). x.refusal) is ∙ ap number_of e) }
 

@@ -1,9 +1,9 @@
 -- What the exported function hands to C of a text, an entry of it, a period and a limit (02, L6).
 -- Assumes nothing.
-use Rattle.std.specs.Prelude.{◌≡◌, ◌⊎◌, Bool, true, cond, List, ℕ, ◌-◌, ◌≤◌, ℤ, Ok, Err}
+use Rattle.std.specs.Prelude.{◌≡◌, ◌⊎◌, Bool, true, cond, List, ℕ, ◌-◌, ◌≤◌, ℤ, Ok}
 use Rattle.figures.specs.declared.Period.{Period}
 use Rattle.figures.specs.declared.Period.TheVariants.{Day, Night}
-use Rattle.figures.specs.Refusal.{number_of}
+use Rattle.figures.specs.Refusal.{check_number}
 use Rattle.figures.specs.Rules.{least_speed, most_speed}
 use Rattle.study.specs.Plan.{Plan}
 use Rattle.study.specs.Add.{ours}
@@ -12,8 +12,8 @@ use Rattle.request.specs.Levels.{own_marks, MarksAllowed}
 use Rattle.request.specs.Accuracy.{has_trains}
 use Rattle.text.specs.Text.{read_text}
 use Rattle.text.specs.Additions.{additions_of}
-use Rattle.text.specs.Answer.{plan_in}
-use Rattle.speeds.specs.Speeds.{with_speed}
+use Rattle.text.specs.Answer.{check_at, line_at, plan_in}
+use Rattle.speeds.specs.Speeds.{with_speed, speed_of}
 use Rattle.speeds.specs.Laws.{IsEntry, BelowAt, Highest, BareAt}
 use Rattle.text_speeds.specs.TextSpeeds.{TextSpeed, text_speed}
 use Rattle.c_values.specs.Values.{line_value}
@@ -23,10 +23,9 @@ use Rattle.railnoise_requests_c.specs.declared.RailnoiseSpeedAnswer.{RailnoiseSp
 unfoldable pub period_by : Bool → Period
 period_by night = cond night Night Day
 
--- the speed, or the number of the refusal with the line that it concerns
+-- the speed, or the number of the refusal with the line that it concerns; `speed_of` says what stands beside a refusal
 unfoldable pub exported_speed : TextSpeed → RailnoiseSpeedAnswer
-exported_speed (Ok v) = record { refusal = 0; line = 0; speed = v }
-exported_speed (Err f) = record { refusal = number_of f.refusal; line = line_value f.line; speed = 0 }
+exported_speed r = record { refusal = check_number (check_at r); line = line_value (line_at r); speed = speed_of r }
 
 -- the whole of a call: by the program's own marks, and 01 allows these at every speed
 pub record SpeedCalled (text : List ℕ) (entry : ℕ) (night : Bool) (limit : ℤ) (r : RailnoiseSpeedAnswer) : Type 0 where

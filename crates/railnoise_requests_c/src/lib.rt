@@ -273,7 +273,7 @@ fn period_by(night: bool) -> Period
     if night { Period::Night } else { Period::Day }
 }
 
-#[tactic(auto, unfolding(crate::specs::Speed::exported_speed))]
+#[tactic(auto, unfolding(crate::specs::Speed::exported_speed, text::specs::Answer::check_at, text::specs::Answer::line_at, speeds::specs::Speeds::speed_of, figures::specs::Refusal::check_number))]
 fn speed_answer_of(answer: Result<u32, Fault>) -> RailnoiseSpeedAnswer
     ensures { result ≡ exported_speed answer }
 {

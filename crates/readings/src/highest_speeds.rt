@@ -108,7 +108,7 @@ fn merged(first: Study, second: &Study) -> Study {
     merging::merge(&first, second).unwrap_or(first)
 }
 
-// The speed is written of a refusal too, where it must be 0.
+// Beside a refusal the 0 that C gets as its speed is shown.
 fn show_speed(
     rt: &impl Print,
     study: &Study,
@@ -134,7 +134,7 @@ fn show_speeds(
     limits: &[i32],
 ) -> io::Result<()> {
     for &limit in limits {
-        show_speed(rt, &study, entry, period, limit)?;
+        show_speed(rt, study, entry, period, limit)?;
     }
     Ok(())
 }

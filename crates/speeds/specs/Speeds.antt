@@ -65,10 +65,10 @@ SpeedAnswer = Result ℕ Refusal
 abbrev pub speed_by : Check → ℕ → SpeedAnswer
 speed_by check v = answered check v
 
--- the speed, and 0 with a refusal, as C is handed it
-unfoldable pub speed_of : SpeedAnswer → ℕ
+-- the speed, and 0 with a refusal, whatever is told with it: as C is handed it
+unfoldable pub speed_of : {F : Type 0} → Result ℕ F → ℕ
 speed_of (Ok v) = v
-speed_of (Err r) = 0
+speed_of (Err f) = 0
 
 abbrev pub answer_at : ℕ → ℕ → ℕ → SpeedAnswer
 answer_at entry entries v = speed_by (speed_check entry entries v) v

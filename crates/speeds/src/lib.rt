@@ -142,7 +142,7 @@ pub fn highest_speed(
     ensures answered { SpeedAnswered study.now entry period limit result }
     ensures number { check_number (check_of result) ≡ speed_number entry (length study.now.entries) (highest_in study.now entry period limit) }
 {
-    // of a study without entries too, in place of 23
+    // A study without entries is refused so too, in place of 23.
     let outside = Refusal::EntryNumber;
     let entries = study.entries();
     let total = entries.len();
@@ -150,7 +150,7 @@ pub fn highest_speed(
         return Err(outside);
     }
     let mut cells = [0i32; MOST_CELLS];
-    // of an entry with cells enough nothing is refused
+    // Never refused: the study has an entry, and the cells are as many as any study needs.
     let _ = levels(study, &mut cells);
     let asked = entries[entry - 1];
     let tenths = tenths_at(study.segments(), asked.segment);

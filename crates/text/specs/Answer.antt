@@ -19,10 +19,14 @@ unfoldable pub reading_of : Result Plan Fault → Reading
 reading_of (Ok st) = accepted_with st
 reading_of (Err f) = refused_at f.refusal f.line
 
--- its check
+-- its check, and its line
 unfoldable pub check_at : {A : Type 0} → Result A Fault → Check
 check_at (Ok _) = Ok tt
 check_at (Err f) = Err f.refusal
+
+unfoldable pub line_at : {A : Type 0} → Result A Fault → ℕ
+line_at (Ok _) = 0
+line_at (Err f) = f.line
 
 -- a refusal at a line
 abbrev pub refused_line : {A : Type 0} → Refusal → ℕ → Result A Fault

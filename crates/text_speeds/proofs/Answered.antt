@@ -26,14 +26,14 @@ use Rattle.request.proofs.Cells.{cells_of, cells_length, entry_level}
 use Rattle.request.proofs.Laid.{first_most}
 use Rattle.text.specs.declared.Fault.{Fault}
 use Rattle.text.specs.Text.{read_text}
-use Rattle.text.specs.Answer.{TextAnswer, check_at, answer_with, refused_line, text_answer, plan_in, text_number, TextAnswered}
+use Rattle.text.specs.Answer.{TextAnswer, check_at, answer_with, refused_line, at_line, text_answer, plan_in, text_number, TextAnswered}
 use Rattle.text.proofs.EnoughCells.{told, period_cells}
 use Rattle.text.proofs.Runs.{text_held, accepted_line}
 use Rattle.speeds.specs.Speeds.{SpeedAnswer, at_speed, speed_number, highest_in, speed_answer, SpeedAnswered, SpeedAnsweredFrom}
 use Rattle.speeds.proofs.OfPlan.{entry_in, added_in, allowed_at, outside_refused, plan_answered}
 use Rattle.speeds.proofs.Checks.{answer_number}
 use Rattle.speeds.proofs.OfStudy.{part_is}
-use Rattle.text_speeds.specs.TextSpeeds.{TextSpeed, refused_speed, speed_at_line, speed_with, text_speed, text_speed_number, TextSpeedAnswered}
+use Rattle.text_speeds.specs.TextSpeeds.{TextSpeed, speed_with, text_speed, text_speed_number, TextSpeedAnswered}
 use Rattle.text_speeds.specs.Private.{TrainIn, train_of_entry, trains_held, Emitted, Regained}
 use Rattle.std.specs.Prelude.{Option, None, Some, Ok, Err, is_ok, slice_get, MatchResult}
 use Rattle.std.proofs.lemmas.List.{get_or_default}
@@ -112,7 +112,7 @@ refused_told line plan cells entry p limit {f} e q =
     rw e (ap Err same)
 
 -- an answer with its line, as `map_err` gives it
-line_mapped : (a : SpeedAnswer) {r : TextSpeed} → MatchResult a (λ v. r ≡ Ok v) (λ f. r ≡ refused_speed f 0) → r ≡ speed_at_line 0 a
+line_mapped : (a : SpeedAnswer) {r : TextSpeed} → MatchResult a (λ v. r ≡ Ok v) (λ f. r ≡ refused_line f 0) → r ≡ at_line 0 a
 line_mapped (Ok v) e = e
 line_mapped (Err f) e = e
 
@@ -121,9 +121,9 @@ module _ (text : List ℕ) (entry : ℕ) (p : Period) (limit : ℤ) where
   few = (text_held ours text).total
 
   -- the request over the text's study
-  planned : {a : SpeedAnswer} → (read_text ours text).check ≡ Ok tt → SpeedAnswered (plan_in text) entry p limit a → TextSpeedAnswered text entry p limit (speed_at_line 0 a)
+  planned : {a : SpeedAnswer} → (read_text ours text).check ≡ Ok tt → SpeedAnswered (plan_in text) entry p limit a → TextSpeedAnswered text entry p limit (at_line 0 a)
   unfolding text_speed speed_with
-  planned ok q = record { answer = ap (speed_at_line 0) q.answer ∙ rw (ok, accepted_line ours text ok) refl; allowed = q.allowed }
+  planned ok q = record { answer = ap (at_line 0) q.answer ∙ rw (ok, accepted_line ours text ok) refl; allowed = q.allowed }
 
   module _ {before after : List ℤ} (room : length before ≡ cells_needed ours.entries) where
     -- what the text is refused with, at its line
@@ -135,23 +135,23 @@ module _ (text : List ℕ) (entry : ℕ) (p : Period) (limit : ℤ) where
 
     module _ {both : Periods PeriodResult} (q : TextAnswered text before after (Ok both)) where
       -- 25 where the number is of no entry
-      pub zero_told : entry ≡ 0 → TextSpeedAnswered text entry p limit (refused_speed EntryNumber 0)
+      pub zero_told : entry ≡ 0 → TextSpeedAnswered text entry p limit (refused_line EntryNumber 0)
       zero_told e = planned (ok q room) (outside_refused (plan_in text) entry p limit few (λ h. omega (arith, e, h.0)))
 
       module _ (some : entry ≡ 0 → ⊥) {found : ℕ × Option Train} (f : TrainIn text (entry - 1) found) where
-        pub past_told : found.1 ≡ None → TextSpeedAnswered text entry p limit (refused_speed EntryNumber 0)
+        pub past_told : found.1 ≡ None → TextSpeedAnswered text entry p limit (refused_line EntryNumber 0)
         past_told e = planned (ok q room) (outside_refused (plan_in text) entry p limit few (past q room some f e))
 
         module _ {t : Train} (there : found.1 ≡ Some t) {from : ℕ} (first : from ≡ first_cell p found.0) {cell tenths : ℤ} (e : cell ≡ get_or (take (from + found.0 - from) (drop from after)) (entry - 1) (pos 0)) where
           pub speed_told : Regained p t cell tenths → {s : SpeedAnswer} → SpeedAnsweredFrom (take ours.entries (take (from + found.0 - from) (drop from after))) entry tenths t p limit s
-              → {r : TextSpeed} → MatchResult s (λ v. r ≡ Ok v) (λ why. r ≡ refused_speed why 0) → TextSpeedAnswered text entry p limit r
+              → {r : TextSpeed} → MatchResult s (λ v. r ≡ Ok v) (λ why. r ≡ refused_line why 0) → TextSpeedAnswered text entry p limit r
           speed_told g {s} h m =
               let a = plan_answered (plan_in text) entry p limit few (cells_are q room some f there p first) (same_level q room some f there p first e g) h in
               subst (TextSpeedAnswered text entry p limit) (sym (line_mapped s m)) (planned (ok q room) a)
 
 -- ---- its number
 
-line_check : (line : ℕ) (a : SpeedAnswer) → check_at (speed_at_line line a) ≡ check_of a
+line_check : (line : ℕ) (a : SpeedAnswer) → check_at (at_line line a) ≡ check_of a
 unfolding check_at check_of
 line_check line (Ok v) = refl
 line_check line (Err why) = refl

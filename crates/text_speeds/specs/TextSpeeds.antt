@@ -2,32 +2,23 @@
 -- Assumes nothing.
 use Rattle.std.specs.Prelude.{◌≡◌, cond, List, ℕ, ◌-◌, ℤ, length, Result, Ok, Err, is_ok}
 use Rattle.figures.specs.declared.Period.{Period}
-use Rattle.figures.specs.declared.Refusal.{Refusal}
 use Rattle.figures.specs.Refusal.{Check}
 use Rattle.study.specs.Plan.{Plan}
 use Rattle.study.specs.Add.{ours}
 use Rattle.request.specs.Levels.{own_marks, MarksAllowed}
 use Rattle.text.specs.declared.Fault.{Fault}
 use Rattle.text.specs.Text.{read_text}
-use Rattle.text.specs.Answer.{plan_in, text_number}
-use Rattle.speeds.specs.Speeds.{SpeedAnswer, with_speed, speed_number, highest_in, speed_answer}
+use Rattle.text.specs.Answer.{refused_line, at_line, plan_in, text_number}
+use Rattle.speeds.specs.Speeds.{with_speed, speed_number, highest_in, speed_answer}
 
 -- a refusal with the line at fault, 0 where none is, or the speed
 abbrev pub TextSpeed : Type 0
 TextSpeed = Result ℕ Fault
 
-abbrev pub refused_speed : Refusal → ℕ → TextSpeed
-refused_speed why line = Err (record { refusal = why; line = line })
-
--- an answer with the line of the text that it concerns
-abbrev pub speed_at_line : ℕ → SpeedAnswer → TextSpeed
-speed_at_line line (Ok v) = Ok v
-speed_at_line line (Err why) = refused_speed why line
-
 -- from the check, the line and the plan of a reading: a refused text's refusal and line, else the request over its study. An accepted text's line is 0
 unfoldable pub speed_with : Check → ℕ → Plan → ℕ → Period → ℤ → TextSpeed
-speed_with (Ok _) line plan entry p limit = speed_at_line line (speed_answer plan entry p limit)
-speed_with (Err why) line plan entry p limit = refused_speed why line
+speed_with (Ok _) line plan entry p limit = at_line line (speed_answer plan entry p limit)
+speed_with (Err why) line plan entry p limit = refused_line why line
 
 unfoldable pub text_speed : List ℕ → ℕ → Period → ℤ → TextSpeed
 text_speed text entry p limit = let r = read_text ours text in speed_with r.check r.line r.study entry p limit

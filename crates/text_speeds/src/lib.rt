@@ -60,7 +60,7 @@ pub fn text_speed(text: &[u8], entry: usize, period: Period, limit: i32) -> Resu
 {
     let mut cells = [0i32; MOST_CELLS];
     let _ = text_levels(text, &mut cells)?;
-    // of an accepted text, so at no line
+    // The text is accepted, so no line is at fault.
     let outside = Fault {
         refusal: Refusal::EntryNumber,
         line: 0,
