@@ -21,7 +21,7 @@ use Rattle.request.proofs.Answers.{answer_check}
 use Rattle.request.proofs.Laid.{own_cells}
 use Rattle.request.proofs.Results.{own_allowed, result_is}
 use Rattle.text.specs.Text.{read_text}
-use Rattle.text.specs.Answer.{cells_with, plan_in}
+use Rattle.text.specs.Answer.{check_at, cells_with, plan_in}
 use Rattle.text.proofs.Runs.{text_is_run, text_held}
 use Rattle.text.proofs.Counted.{accepted_text_entry}
 use Rattle.merging.specs.Merge.{merge_check, merged}
@@ -30,10 +30,11 @@ use Rattle.merging.proofs.Joining.{joined_total}
 use Rattle.merging.proofs.Merges.{merged_check, made_joined, merge_is_run}
 use Rattle.merging.proofs.OwnLevels.{own_levels}
 use Rattle.merging.proofs.OwnCounts.{own_close}
-use Rattle.drawings.specs.declared.MergedFault.{MergedFault}
+use Rattle.text.specs.declared.TextFault.{TextFault}
+use Rattle.text.specs.Private.{TextRefused}
 use Rattle.drawings.specs.declared.Drawing.{Drawing}
 use Rattle.drawings.specs.Drawings.{MergedAnswer, answer_told, check_told, merged_of, merged_plan_in, refused_told, told_at, told_unless, merged_answer, texts_check, merged_answer_number, MergedAnswered}
-use Rattle.drawings.specs.Private.{total_in, Given, TextGives, TextRefused, entries_together, limits_together, check_together, levels_together, result_together, Together}
+use Rattle.drawings.specs.Private.{total_in, Given, TextGives, entries_together, limits_together, check_together, levels_together, result_together, Together}
 use Rattle.drawings.proofs.Texts.{day_entries}
 use Rattle.std.specs.Prelude.{Ok, Err, MatchResult}
 
@@ -44,21 +45,21 @@ told_mapped (Err why) e = e
 
 -- the check of what is told is the answer's
 pub told_check : (text line : ℕ) (a : Answer) → check_told (told_at text line a) ≡ check_of a
-unfolding answer_told
+unfolding answer_told check_at check_of
 told_check text line (Ok b) = refl
 told_check text line (Err why) = refl
 
 -- the first of the refusals is told
 first_told : (one two both : Check) (line other : ℕ) (a : Answer) → check_told (told_unless one 1 line (told_unless two 2 other (told_unless both 0 0 (told_at 0 0 a)))) ≡ first_refused (first_refused one (first_refused two both)) (check_of a)
-unfolding first_refused answer_told check_of
+unfolding first_refused answer_told check_at check_of
 first_told (Ok _) (Ok _) (Ok _) line other a = told_check 0 0 a
 first_told (Ok _) (Ok _) (Err why) line other a = refl
 first_told (Ok _) (Err why) both line other a = refl
 first_told (Err why) two both line other a = refl
 
 -- a text's refusal
-told_as : {place : ℕ} {text : List ℕ} {f : MergedFault} → TextRefused place text f → ◌≡◌ {A = MergedAnswer} (Err f) (refused_told place (read_text ours text).line f.refusal)
-told_as {f = f} w = ap₂ (λ (place line : ℕ). refused_told place line f.refusal) w.told w.line
+told_as : {place : ℕ} {text : List ℕ} {f : TextFault} → TextRefused place text f → ◌≡◌ {A = MergedAnswer} (Err f) (refused_told place (read_text ours text).line f.fault.refusal)
+told_as {f = f} w = ap₂ (λ (place line : ℕ). refused_told place line f.fault.refusal) w.told w.line
 
 -- what the function ensures
 abbrev AsAsked : List ℕ → List ℕ → List ℤ → List ℤ → MergedAnswer → Type 0
@@ -111,12 +112,12 @@ module _ (first second : List ℕ) where
   asked {before} e cells =
       (record { answer = e; cells = cells; allowed = own_allowed (merged_plan_in first second) few }, ap (λ (a : MergedAnswer). check_number (check_told a)) e ∙ ap check_number (told (length before)))
 
-  pub first_refused_lem : {f : MergedFault} → TextRefused 1 first f → {cells : List ℤ} → AsAsked first second cells cells (Err f)
+  pub first_refused_lem : {f : TextFault} → TextRefused 1 first f → {cells : List ℤ} → AsAsked first second cells cells (Err f)
   unfolding merged_answer texts_check first_refused cells_with
   first_refused_lem w = asked (told_as w ∙ rw w.check) (rw w.check)
 
   module _ {one : Drawing} (a : TextGives first one) where
-    pub second_refused : {f : MergedFault} → TextRefused 2 second f → {cells : List ℤ} → AsAsked first second cells cells (Err f)
+    pub second_refused : {f : TextFault} → TextRefused 2 second f → {cells : List ℤ} → AsAsked first second cells cells (Err f)
     unfolding merged_answer texts_check first_refused cells_with
     second_refused w = asked (told_as w ∙ rw (a.accepted, w.check)) (rw (a.accepted, w.check))
 

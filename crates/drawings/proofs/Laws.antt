@@ -12,14 +12,14 @@ use lib.IntN.{ℤ}
 use lib.ListN.{length}
 use Rattle.figures.specs.declared.Refusal.{Refusal}
 use Rattle.figures.specs.declared.Refusal.TheVariants.{SegmentLimit, EntryLimit, FewCells}
-use Rattle.figures.specs.Refusal.{number_of, check_number, check_of, unless, first_refused, Check}
+use Rattle.figures.specs.Refusal.{number_of, check_number, unless, first_refused, Check}
 use Rattle.study.specs.Plan.{Plan}
 use Rattle.study.specs.Add.{ours}
 use Rattle.request.specs.Levels.{own_marks}
 use Rattle.request.specs.Request.{Answer, request_check, levels_check, answer_by}
 use Rattle.request.proofs.Answers.{answer_check}
 use Rattle.text.specs.Text.{read_text}
-use Rattle.text.specs.Answer.{at_line, plan_in, answer_with, text_answer, cells_with}
+use Rattle.text.specs.Answer.{check_at, line_at, at_line, plan_in, answer_with, text_answer, cells_with}
 use Rattle.text.proofs.Runs.{text_held, accepted_line}
 use Rattle.text.proofs.Counted.{accepted_text_entry}
 use Rattle.text.proofs.Refusals.{text_refusal_is_own}
@@ -29,7 +29,7 @@ use Rattle.merging.proofs.Joining.{Room, joined_count, joined_total}
 use Rattle.merging.proofs.Merges.{merged_check, room_accepts}
 use Rattle.drawings.specs.Drawings.{MergedAnswer, answer_told, text_told, line_told, told_at, merged_of, merged_plan_in, merged_answer, texts_check}
 use Rattle.drawings.proofs.Answers.{told_check, merged_plan_lem}
-use Rattle.drawings.specs.Laws.{OfBothTexts, FirstTold, SecondTold, NoneTold, WholeText, answer_read, line_read, SameAnswer, MergedTexts}
+use Rattle.drawings.specs.Laws.{OfBothTexts, FirstTold, SecondTold, NoneTold, WholeText, SameAnswer, MergedTexts}
 use Rattle.std.specs.Prelude.{Ok, Err}
 
 -- ---- an accepted text has an entry
@@ -73,7 +73,7 @@ nowhere_text (Ok b) = refl
 nowhere_text (Err why) = refl
 
 nowhere_line : (a : Answer) → line_told (told_at 0 0 a) ≡ 0
-unfolding line_told
+unfolding answer_told line_at
 nowhere_line (Ok b) = refl
 nowhere_line (Err why) = refl
 
@@ -93,12 +93,12 @@ module _ (first second : List ℕ) (n : ℕ) where
   own_of text why e = rw e at (text_refusal_is_own ours text)
 
   first_told : (why : Refusal) → (read_text ours first).check ≡ Err why → FirstTold first answer
-  unfolding merged_answer answer_told text_told line_told check_of
+  unfolding merged_answer answer_told text_told check_at line_at
   first_told why e = rw e (record { told = refl; check = sym e; own = (why, (refl, own_of first why e)); line = refl })
 
   module _ (ok : (read_text ours first).check ≡ Ok tt) where
     second_told : (why : Refusal) → (read_text ours second).check ≡ Err why → SecondTold first second answer
-    unfolding merged_answer answer_told text_told line_told check_of
+    unfolding merged_answer answer_told text_told check_at line_at
     second_told why e = rw (ok, e) (record { told = refl; accepted = ok; check = sym e; own = (why, (refl, own_of second why e)); line = refl })
 
     module _ (also : (read_text ours second).check ≡ Ok tt) where
@@ -107,7 +107,7 @@ module _ (first second : List ℕ) (n : ℕ) where
       both_of = rw (check_is first second) (limits_of _ _)
 
       none_told : (both : Check) → (merged_of first second).check ≡ both → NoneTold first second answer
-      unfolding merged_answer answer_told text_told line_told check_of
+      unfolding merged_answer answer_told text_told check_at line_at
       none_told (Err why) e = rw (ok, also, e) (record { told = refl; one = ok; two = also; check = rw e at both_of; line = refl })
       none_told (Ok _) e =
           let a = answer_by (levels_check plan n) plan (own_marks plan) in
@@ -125,9 +125,9 @@ module _ (first second : List ℕ) (n : ℕ) where
 -- ---- typed whole
 
 same_told : (a : Answer) → SameAnswer (told_at 0 0 a) (at_line 0 a)
-unfolding answer_told text_told line_told answer_read line_read
-same_told (Ok b) = record { text = refl; answer = refl; line = refl }
-same_told (Err why) = record { text = refl; answer = refl; line = refl }
+unfolding answer_told text_told
+same_told (Ok b) = record { text = refl; answer = refl }
+same_told (Err why) = record { text = refl; answer = refl }
 
 module _ (first second whole : List ℕ) (w : WholeText first second whole) where
   room : Room ours (plan_in first) (plan_in second)

@@ -1,7 +1,6 @@
 -- What one text gives: its levels in the cells, and for each period how many segments with trains are marked.
 -- Assumes nothing.
 use mathlib.Core.Path.{◌≡◌, refl, sym, ap, ◌∙◌}
-use mathlib.Core.Bool.{false≢true}
 use mathlib.Core.List.{List, map}
 use Prim.Native.Nat.{ℕ, ◌+◌}
 use native.Mathlib.Omega.{arith}
@@ -10,28 +9,25 @@ use lib.ListN.{length, take, drop}
 use Rattle.figures.specs.declared.Period.{Period}
 use Rattle.figures.specs.declared.Periods.{Periods}
 use Rattle.figures.specs.Periods.{in_period}
-use Rattle.figures.specs.Refusal.{Check, answered}
 use Rattle.figures.specs.declared.Period.TheVariants.{Day, Night}
 use Rattle.study.specs.Plan.{Plan}
 use Rattle.study.specs.Add.{ours}
 use Rattle.request.specs.declared.PeriodResult.{PeriodResult}
 use Rattle.request.specs.Levels.{own_marks, levels_of, cell_of, close_segments, result_from, result_by}
-use Rattle.request.specs.Request.{cells_needed, first_cell, answer_of}
+use Rattle.request.specs.Request.{cells_needed, first_cell}
 use Rattle.request.proofs.Cells.{cells_of, cells_length}
 use Rattle.request.proofs.Counts.{close_most}
 use Rattle.request.proofs.Results.{result_is}
 use Rattle.request.proofs.Laid.{own_cells}
 use Rattle.text.specs.Text.{read_text}
-use Rattle.text.specs.Answer.{TextAnswer, check_at, answer_with, plan_in, text_answer, TextAnswered}
-use Rattle.text.proofs.Runs.{text_held, accepted_line}
-use Rattle.text.proofs.EnoughCells.{answer_is, told, period_cells}
-use Rattle.drawings.specs.declared.MergedFault.{MergedFault}
+use Rattle.text.specs.Answer.{TextAnswer, plan_in, TextAnswered}
+use Rattle.text.proofs.Runs.{text_held}
+use Rattle.text.proofs.EnoughCells.{accepted_by, results_are, period_cells}
 use Rattle.drawings.specs.declared.Sizes.{Sizes}
 use Rattle.drawings.specs.declared.Part.{Part}
 use Rattle.drawings.specs.declared.Drawing.{Drawing}
-use Rattle.drawings.specs.Laws.{line_read}
-use Rattle.drawings.specs.Private.{total_marks, Announced, Unannounced, PartOf, Given, TextGives, TextRefused, Small}
-use Rattle.std.specs.Prelude.{Option, None, Some, IsSome, MatchOption, Result, Ok, Err, is_ok, MatchResult}
+use Rattle.drawings.specs.Private.{total_marks, Announced, Unannounced, PartOf, Given, TextGives, Small}
+use Rattle.std.specs.Prelude.{Option, None, Some, IsSome, MatchOption, Ok}
 
 -- ---- the answer of a text with 192 cells
 
@@ -39,64 +35,18 @@ module _ (text : List ℕ) {before after : List ℤ} {a : TextAnswer} (q : TextA
   abbrev plan : Plan
   plan = plan_in text
 
-  abbrev reading_check : Check
-  reading_check = (read_text ours text).check
-
-  line_is : (c : Check) → reading_check ≡ c → line_read a ≡ (read_text ours text).line
-  unfolding text_answer answer_with answer_of answered line_read
-  line_is (Ok _) ok = ap line_read (answer_is text q room ok) ∙ sym (accepted_line ours text ok)
-  line_is (Err why) e = ap line_read q.answer ∙ rw e refl
-
-  -- what `map_err` gives
-  module _ (place : ℕ) {r : Result (Periods PeriodResult) MergedFault} (m : MatchResult a (λ b. r ≡ Ok b) (λ f. r ≡ Err (record { refusal = f.refusal; text = place; line = f.line }))) where
-    pub text_refused : {g : MergedFault} → r ≡ Err g → TextRefused place text g
-    unfolding check_at line_read
-    text_refused {g} e = go a refl m
-      where
-        fault_of : Result (Periods PeriodResult) MergedFault → MergedFault
-        fault_of (Ok b) = g
-        fault_of (Err f) = f
-
-        go : (x : TextAnswer) → a ≡ x → MatchResult x (λ b. r ≡ Ok b) (λ f. r ≡ Err (record { refusal = f.refusal; text = place; line = f.line })) → TextRefused place text g
-        go (Ok b) is same = absurd (false≢true (ap is_ok (sym e ∙ same)))
-        go (Err f) is same =
-            rw (ap fault_of (sym e ∙ same))
-            (record { check = sym (told text q room reading_check refl) ∙ ap check_at is; told = refl; line = sym (ap line_read is) ∙ line_is reading_check refl })
-
-    pub text_answered : {both : Periods PeriodResult} → r ≡ Ok both → a ≡ Ok both
-    text_answered {both} e = go a refl m
-      where
-        results_of : Result (Periods PeriodResult) MergedFault → Periods PeriodResult
-        results_of (Ok b) = b
-        results_of (Err f) = both
-
-        go : (x : TextAnswer) → a ≡ x → MatchResult x (λ b. r ≡ Ok b) (λ f. r ≡ Err (record { refusal = f.refusal; text = place; line = f.line })) → a ≡ Ok both
-        go (Ok b) is same = is ∙ ap Ok (ap results_of (sym same ∙ e))
-        go (Err f) is same = absurd (false≢true (ap is_ok (sym same ∙ e)))
-
   module _ {both : Periods PeriodResult} (e : a ≡ Ok both) where
-    accepted : reading_check ≡ Ok tt
-    unfolding check_at
-    accepted = sym (told text q room reading_check refl) ∙ ap check_at e
+    accepted : (read_text ours text).check ≡ Ok tt
+    accepted = accepted_by text q room e
 
     pub sizes_some : (o : Option Sizes) → MatchOption o (Unannounced text) (λ r. Announced text r) → IsSome o
     sizes_some None w = absurd (w accepted)
     sizes_some (Some r) w = refl
 
     results : (p : Period) → in_period p both ≡ result_by p plan (own_marks plan)
-    unfolding answer_of answered in_period
-    results p = go p
-      where
-        either : TextAnswer → Periods PeriodResult
-        either (Ok r) = r
-        either (Err f) = both
-
-        same : both ≡ record { day = result_by Day plan (own_marks plan); night = result_by Night plan (own_marks plan) }
-        same = ap either (sym e ∙ answer_is text q room accepted)
-
-        go : (p : Period) → in_period p both ≡ result_by p plan (own_marks plan)
-        go Day = ap (λ (x : Periods PeriodResult). x.day) same
-        go Night = ap (λ (x : Periods PeriodResult). x.night) same
+    unfolding in_period
+    results Day = ap (λ (x : Periods PeriodResult). x.day) (results_are text q room e)
+    results Night = ap (λ (x : Periods PeriodResult). x.night) (results_are text q room e)
 
     -- the close count has the total's own mark in it
     close_at : (p : Period) → (in_period p both).close ≡ close_segments p plan (own_marks plan) + total_marks (cells_of p plan)

@@ -3,15 +3,15 @@
 use Rattle.std.specs.Prelude.{◌≡◌, List, ℕ, ℤ, length, Result, Ok, Err}
 use Rattle.figures.specs.declared.Refusal.{Refusal}
 use Rattle.figures.specs.declared.Periods.{Periods}
-use Rattle.figures.specs.Refusal.{check_number, check_of, first_refused, Check}
+use Rattle.figures.specs.Refusal.{check_number, first_refused, Check}
 use Rattle.study.specs.Plan.{Plan}
 use Rattle.study.specs.Add.{Added, ours}
 use Rattle.request.specs.declared.PeriodResult.{PeriodResult}
 use Rattle.request.specs.Levels.{own_marks, MarksAllowed}
 use Rattle.request.specs.Request.{Answer, levels_check, answer_by}
 use Rattle.text.specs.Text.{read_text}
-use Rattle.text.specs.Answer.{cells_with}
-use Rattle.drawings.specs.declared.MergedFault.{MergedFault}
+use Rattle.text.specs.Answer.{TextAnswer, check_at, line_at, cells_with}
+use Rattle.text.specs.declared.TextFault.{TextFault}
 use Rattle.merging.specs.Merge.{merged}
 
 -- the merge of both texts' studies, and what its study holds; where a text is refused, neither is looked at
@@ -25,32 +25,31 @@ merged_plan_in first second = (merged_of first second).study
 
 -- both periods' results, or a refusal with the text at fault and its line
 abbrev pub MergedAnswer : Type 0
-MergedAnswer = Result (Periods PeriodResult) MergedFault
+MergedAnswer = Result (Periods PeriodResult) TextFault
 
 -- a refusal with the text that is at fault, 1 or 2, and its line; both 0 where none is
 abbrev pub refused_told : ℕ → ℕ → Refusal → MergedAnswer
-refused_told text line why = Err (record { refusal = why; text = text; line = line })
+refused_told text line why = Err (record { text = text; fault = record { refusal = why; line = line } })
 
 -- an answer with the text and the line that its refusal tells
 abbrev pub told_at : ℕ → ℕ → Answer → MergedAnswer
 told_at text line (Ok both) = Ok both
 told_at text line (Err why) = refused_told text line why
 
--- the answer without them, and each of them: 0 without a refusal
-unfoldable pub answer_told : MergedAnswer → Answer
-answer_told (Ok both) = Ok both
-answer_told (Err f) = Err f.refusal
-
+-- the text that is told, 0 without a refusal; and the answer without it, as one text gives it
 unfoldable pub text_told : MergedAnswer → ℕ
 text_told (Ok both) = 0
 text_told (Err f) = f.text
 
-unfoldable pub line_told : MergedAnswer → ℕ
-line_told (Ok both) = 0
-line_told (Err f) = f.line
+unfoldable pub answer_told : MergedAnswer → TextAnswer
+answer_told (Ok both) = Ok both
+answer_told (Err f) = Err f.fault
 
 abbrev pub check_told : MergedAnswer → Check
-check_told r = check_of (answer_told r)
+check_told r = check_at (answer_told r)
+
+abbrev pub line_told : MergedAnswer → ℕ
+line_told r = line_at (answer_told r)
 
 -- a refusal ends the request; else what comes after it
 abbrev pub told_unless : Check → ℕ → ℕ → MergedAnswer → MergedAnswer

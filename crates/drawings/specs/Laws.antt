@@ -5,7 +5,6 @@ use Rattle.figures.specs.declared.Refusal.{Refusal}
 use Rattle.figures.specs.declared.Refusal.TheVariants.{SegmentLimit, EntryLimit, FewCells}
 use Rattle.figures.specs.Refusal.{number_of, Check}
 use Rattle.study.specs.Add.{ours}
-use Rattle.request.specs.Request.{Answer}
 use Rattle.text.specs.Text.{read_text}
 use Rattle.text.specs.Answer.{TextAnswer, plan_in, text_answer, cells_with}
 use Rattle.merging.specs.Joined.{joined}
@@ -45,19 +44,10 @@ pub record WholeText (first second whole : List ℕ) : Type 0 where
   pub all : (read_text ours whole).check ≡ Ok tt
   pub lists : plan_in whole ≡ joined (plan_in first) (plan_in second)
 
--- what is answered of two texts, and of one
-unfoldable pub answer_read : TextAnswer → Answer
-answer_read (Ok both) = Ok both
-answer_read (Err f) = Err f.refusal
-
-unfoldable pub line_read : TextAnswer → ℕ
-line_read (Ok both) = 0
-line_read (Err f) = f.line
-
+-- what is answered of two texts is what is answered of one, with its line
 pub record SameAnswer (r : MergedAnswer) (t : TextAnswer) : Type 0 where
   pub text : text_told r ≡ 0
-  pub answer : answer_told r ≡ answer_read t
-  pub line : line_told r ≡ line_read t
+  pub answer : answer_told r ≡ t
 
 pub record MergedTexts : Type 0 where
   -- every answer tells the first text, the second, or none

@@ -1,6 +1,6 @@
 -- What contracts of this crate's private functions cite: what one text gives, and what two give together.
 -- Assumes nothing.
-use Rattle.std.specs.Prelude.{◌≡◌, cond, List, ◌++◌, map, ℕ, ◌+◌, ◌-◌, ◌≤◌, leb, ℤ, length, take, Ok, Err}
+use Rattle.std.specs.Prelude.{◌≡◌, cond, List, ◌++◌, map, ℕ, ◌+◌, ◌-◌, ◌≤◌, leb, ℤ, length, take, Ok}
 use Rattle.std.proofs.Math.Seq.{paste}
 use Rattle.energy.specs.declared.Total.{Total}
 use Rattle.energy.specs.Total.{heard}
@@ -18,7 +18,6 @@ use Rattle.request.specs.Request.{Answer, cells_needed, laid, answer_of}
 use Rattle.merging.specs.Merge.{limits_check}
 use Rattle.text.specs.Text.{read_text}
 use Rattle.text.specs.Answer.{plan_in}
-use Rattle.drawings.specs.declared.MergedFault.{MergedFault}
 use Rattle.drawings.specs.declared.Sizes.{Sizes}
 use Rattle.drawings.specs.declared.Part.{Part}
 use Rattle.drawings.specs.declared.Drawing.{Drawing}
@@ -52,15 +51,10 @@ pub record Given (plan : Plan) (r : Drawing) : Type 0 where
   pub close : (p : Period) → (in_period p r.parts).close ≡ close_segments p plan (own_marks plan)
   pub levels : (p : Period) → (in_period p r.parts).levels.now ≡ map cell_of (levels_of p plan (own_marks plan))
 
--- an accepted text gives that of its plan, and a refused one its refusal with its place and line
+-- an accepted text gives that of its plan
 pub record TextGives (text : List ℕ) (r : Drawing) : Type 0 where
   pub accepted : (read_text ours text).check ≡ Ok tt
   pub given : Given (plan_in text) r
-
-pub record TextRefused (place : ℕ) (text : List ℕ) (f : MergedFault) : Type 0 where
-  pub check : (read_text ours text).check ≡ Err f.refusal
-  pub told : f.text ≡ place
-  pub line : f.line ≡ (read_text ours text).line
 
 -- ---- two texts
 

@@ -5,8 +5,9 @@ ghost use Rattle.std.specs.Prelude.{◌≡◌, ◌+◌, ◌-◌, ◌≤◌, leng
 ghost use Rattle.figures.specs.Refusal.{check_number};
 ghost use Rattle.study.specs.Add.{ours};
 ghost use Rattle.request.specs.Request.{cells_needed};
+ghost use Rattle.text.specs.Private.{TextRefused};
 ghost use Rattle.drawings.specs.Drawings.{check_told, merged_answer_number, MergedAnswered};
-ghost use Rattle.drawings.specs.Private.{most_close, total_marks, Announced, Unannounced, PartOf, TextGives, TextRefused, PeriodLaid, Small, Together};
+ghost use Rattle.drawings.specs.Private.{most_close, total_marks, Announced, Unannounced, PartOf, TextGives, PeriodLaid, Small, Together};
 
 use figures::{Period, Periods, Refusal};
 use lines::contents::contents_of;
@@ -14,16 +15,7 @@ use lines::split_line;
 use merging::limits_check;
 use request::{MOST_CELLS, PeriodResult, is_met, write_levels};
 use study::{MOST_ENTRIES, MOST_SEGMENTS};
-use text::text_levels;
-
-// Why two texts are turned back, with the text at fault, 1 or 2, and its line; both 0 where no text is at fault. The C interface tells
-// them by these numbers.
-#[derive(Clone, Copy)]
-pub struct MergedFault {
-    pub refusal: Refusal,
-    pub text: u32,
-    pub line: usize,
-}
+use text::{Fault, TextFault, text_levels};
 
 // How many segments and entries a text has.
 #[derive(Clone, Copy)]
@@ -90,15 +82,12 @@ fn part_of(close: u32, levels: &[i32]) -> Part<'_>
 }
 
 // What a text gives, its levels in the cells; or why it is turned back, as the text at its place.
-fn drawing_in<'a>(place: u32, text: &[u8], cells: &'a mut [i32]) -> Result<Drawing<'a>, MergedFault>
+fn drawing_in<'a>(place: u32, text: &[u8], cells: &'a mut [i32]) -> Result<Drawing<'a>, TextFault>
     requires { length cells.old ≡ cells_needed ours.entries }
     ensures { MatchResult result (λ r. TextGives text.now r) (λ f. TextRefused place text.now f) }
 {
-    let answer = text_levels(text, cells).map_err(|fault| MergedFault {
-        refusal: fault.refusal,
-        text: place,
-        line: fault.line,
-    })?;
+    let answer = text_levels(text, cells).map_err(|fault| TextFault { text: place, fault })?;
+    // An accepted text has a first line, whose counts are in range.
     let sizes = sizes_of(text).unwrap();
     let end = sizes.entries + sizes.entries;
     Ok(Drawing {
@@ -164,7 +153,7 @@ pub fn merged_levels(
     first: &[u8],
     second: &[u8],
     cells: &mut [i32],
-) -> Result<Periods<PeriodResult>, MergedFault>
+) -> Result<Periods<PeriodResult>, TextFault>
     ensures answered { MergedAnswered first.now second.now cells.old cells.new result }
     ensures number { check_number (check_told result) ≡ merged_answer_number first.now second.now (length cells.old) }
 {
@@ -173,9 +162,8 @@ pub fn merged_levels(
     let one = drawing_in(1, first, &mut own)?;
     let mut others = [0i32; MOST_CELLS];
     let two = drawing_in(2, second, &mut others)?;
-    together(&one, &two, cells).map_err(|refusal| MergedFault {
-        refusal,
+    together(&one, &two, cells).map_err(|refusal| TextFault {
         text: 0,
-        line: 0,
+        fault: Fault { refusal, line: 0 },
     })
 }

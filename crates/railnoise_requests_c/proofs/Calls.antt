@@ -11,30 +11,30 @@ use Rattle.entitlement.specs.declared.Change.{Change}
 use Rattle.entitlement.specs.declared.Entitlement.{Entitlement}
 use Rattle.entitlement.specs.Entitlement.{levels_in, change_in, all_kept, entitlement_check, entitlement_of, EntitlementAnsweredBy}
 use Rattle.entitlement.specs.Private.{LayoutFew}
-use Rattle.entitlement.proofs.Answers.{all_allowed, given_answer}
-use Rattle.railnoise_requests_c.specs.declared.TextFault.{TextFault}
+use Rattle.entitlement.proofs.Answers.{given_answer}
+use Rattle.text.specs.declared.TextFault.{TextFault}
 use Rattle.railnoise_requests_c.specs.declared.RailnoiseEntitlementAnswer.{RailnoiseEntitlementAnswer}
-use Rattle.railnoise_requests_c.specs.Entitlement.{exported_entitlement, Source, source_check, read_at, layout_of, entitlement_in, EntitlementCalled}
-use Rattle.railnoise_requests_c.specs.Private.{TextGives, TextRefused, exported_told}
+use Rattle.railnoise_requests_c.specs.Entitlement.{exported_entitlement, Source, source_check, read_at, layout_of, entitlement_in}
+use Rattle.railnoise_requests_c.specs.Private.{source_of, TextGives, Refused, exported_told}
 use Rattle.railnoise_requests_c.proofs.Texts.{lines_few, accepted-kept}
-use Rattle.std.specs.Prelude.{Result, Ok, Err}
+use Rattle.std.specs.Prelude.{List, Option, None, Some, Result, Ok, Err}
 
 -- ---- one text
 
-module _ (place : ℕ) (s : Source) (rest : RailnoiseEntitlementAnswer) where
-  -- one that is not refused lets the request go on
-  read_on : source_check s ≡ Ok tt → read_at place s rest ≡ rest
-  unfolding read_at
-  read_on ok = rw ok
+-- one that is not refused lets the request go on
+read_on : (place : ℕ) (s : Source) (rest : RailnoiseEntitlementAnswer) → source_check s ≡ Ok tt → read_at place s rest ≡ rest
+unfolding read_at
+read_on place s rest ok = rw ok
 
-  -- one that is refused ends it
-  read_stop : {f : TextFault} → TextRefused place s f → exported_told (Err f) ≡ read_at place s rest
-  unfolding read_at exported_told
-  read_stop x = rw (x.check, x.place, x.line)
+-- one that is refused ends it
+read_stop : (place : ℕ) (text : Option (List ℕ)) (rest : RailnoiseEntitlementAnswer) (f : TextFault) → Refused place text f → exported_told (Err f) ≡ read_at place (source_of text) rest
+unfolding read_at source_check exported_told
+read_stop place None rest f x = absurd x
+read_stop place (Some text) rest f x = rw (x.check, x.told, x.line)
 
 -- ---- four texts
 
-layout_few : (a o : Source) → LayoutFew (layout_of a o)
+pub layout_few : (a o : Source) → LayoutFew (layout_of a o)
 layout_few a o = record { altered = lines_few a; other = lines_few o }
 
 -- a period's levels of the four
@@ -42,44 +42,54 @@ abbrev pub change_of : Level → Level → Level → Level → Change
 change_of altered_before altered_after other_before other_after =
     record { before = record { altered = altered_before; other = other_before }; after = record { altered = altered_after; other = other_after } }
 
--- the texts as C hands them over, and what each gives
+-- four texts of which none is refused keep the line of 23
 module _ (a b c d : Source) where
-  abbrev answer : RailnoiseEntitlementAnswer
-  answer = exported_entitlement (entitlement_of (layout_of a c) (layout_of b d)) 0 0
-
-  -- four texts of which none is refused keep the line of 23
   pub kept_all : source_check a ≡ Ok tt → source_check b ≡ Ok tt → source_check c ≡ Ok tt → source_check d ≡ Ok tt → entitlement_check (layout_of a c) (layout_of b d) ≡ Ok tt
   unfolding entitlement_check all_kept unless
   kept_all e f g h = rw (accepted-kept a e, accepted-kept b f, accepted-kept c g, accepted-kept d h)
 
-  pub called : {r : RailnoiseEntitlementAnswer} → r ≡ entitlement_in a b c d → EntitlementCalled a b c d r
-  called q = record { answer = q; allowed = all_allowed (layout_of a c) (layout_of b d) (layout_few a c) (layout_few b d) }
+-- the texts that are looked at, and what each gives
+module _ (first second third fourth : Option (List ℕ)) where
+  abbrev a : Source
+  a = source_of first
 
-  pub refused_first : {f : TextFault} → TextRefused 1 a f → exported_told (Err f) ≡ entitlement_in a b c d
+  abbrev b : Source
+  b = source_of second
+
+  abbrev c : Source
+  c = source_of third
+
+  abbrev d : Source
+  d = source_of fourth
+
+  abbrev answer : RailnoiseEntitlementAnswer
+  answer = exported_entitlement (entitlement_of (layout_of a c) (layout_of b d)) 0 0
+
+  pub refused_first : (f : TextFault) → Refused 1 first f → exported_told (Err f) ≡ entitlement_in a b c d
   unfolding entitlement_in
-  refused_first = read_stop 1 a _
+  refused_first f q = read_stop 1 first _ f q
 
   module _ {s : Periods Level} (x : TextGives a s) where
     after_first : read_at 2 b (read_at 3 c (read_at 4 d answer)) ≡ entitlement_in a b c d
     unfolding entitlement_in
     after_first = sym (read_on 1 a _ x.accepted)
 
-    pub refused_second : {f : TextFault} → TextRefused 2 b f → exported_told (Err f) ≡ entitlement_in a b c d
-    refused_second q = read_stop 2 b _ q ∙ after_first
+    pub refused_second : (f : TextFault) → Refused 2 second f → exported_told (Err f) ≡ entitlement_in a b c d
+    refused_second f q = read_stop 2 second _ f q ∙ after_first
 
     module _ {t : Periods Level} (y : TextGives b t) where
       after_second : read_at 3 c (read_at 4 d answer) ≡ entitlement_in a b c d
       after_second = sym (read_on 2 b _ y.accepted) ∙ after_first
 
-      pub refused_third : {f : TextFault} → TextRefused 3 c f → exported_told (Err f) ≡ entitlement_in a b c d
-      refused_third q = read_stop 3 c _ q ∙ after_second
+      pub refused_third : (f : TextFault) → Refused 3 third f → exported_told (Err f) ≡ entitlement_in a b c d
+      refused_third f q = read_stop 3 third _ f q ∙ after_second
 
       module _ {u : Periods Level} (z : TextGives c u) where
         after_third : read_at 4 d answer ≡ entitlement_in a b c d
         after_third = sym (read_on 3 c _ z.accepted) ∙ after_second
 
-        pub refused_fourth : {f : TextFault} → TextRefused 4 d f → exported_told (Err f) ≡ entitlement_in a b c d
-        refused_fourth q = read_stop 4 d _ q ∙ after_third
+        pub refused_fourth : (f : TextFault) → Refused 4 fourth f → exported_told (Err f) ≡ entitlement_in a b c d
+        refused_fourth f q = read_stop 4 fourth _ f q ∙ after_third
 
         module _ {v : Periods Level} (w : TextGives d v) where
           levels_are : {e : Entitlement} → EntitlementAnsweredBy (change_of s.day t.day u.day v.day) (change_of s.night t.night u.night v.night) e
@@ -90,5 +100,5 @@ module _ (a b c d : Source) where
           pub all_given : {e : Entitlement} → EntitlementAnsweredBy (change_of s.day t.day u.day v.day) (change_of s.night t.night u.night v.night) e → exported_told (Ok e) ≡ entitlement_in a b c d
           unfolding exported_told
           all_given q =
-              let is = given_answer (layout_of a c) (layout_of b d) (layout_few a c) (layout_few b d) (kept_all x.accepted y.accepted z.accepted w.accepted) (levels_are q) in
+              let is = given_answer (layout_of a c) (layout_of b d) (layout_few a c) (layout_few b d) (kept_all a b c d x.accepted y.accepted z.accepted w.accepted) (levels_are q) in
               ap (λ (k : Result Entitlement Refusal). exported_entitlement k 0 0) is ∙ sym (read_on 4 d answer w.accepted) ∙ after_third

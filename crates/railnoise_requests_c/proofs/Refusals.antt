@@ -1,8 +1,8 @@
 -- What a caller can rely on: which refusals come, that the text is told with them, and that a marked text makes no difference.
 -- Assumes nothing.
-use mathlib.Core.Path.{◌≡◌, refl, ap, ◌∙◌}
+use mathlib.Core.Path.{◌≡◌, refl, sym, ap, ◌∙◌}
 use mathlib.Core.Bool.{Bool, true, false, cond}
-use mathlib.Core.List.{[]}
+use mathlib.Core.List.{List, []}
 use Prim.Native.Nat.{ℕ, ◌≤◌, ◌<◌}
 use native.Mathlib.Omega.{arith}
 use Rattle.figures.specs.declared.Refusal.{Refusal}
@@ -13,9 +13,11 @@ use Rattle.text.specs.Text.{Reading, read_text}
 use Rattle.text.proofs.Refusals.{text_refusal_is_own}
 use Rattle.entitlement.specs.Entitlement.{Lines, entitlement_of}
 use Rattle.railnoise_requests_c.specs.declared.RailnoiseEntitlementAnswer.{RailnoiseEntitlementAnswer}
-use Rattle.railnoise_requests_c.specs.Entitlement.{exported_entitlement, Source, source_check, given_lines, ended_by, read_at, layout_of, entitlement_in, as_looked_at, EntitlementCalls}
-use Rattle.railnoise_requests_c.proofs.Calls.{kept_all}
-use Rattle.std.specs.Prelude.{Some, None, Ok, Err}
+use Rattle.railnoise_requests_c.specs.Entitlement.{exported_entitlement, Source, source_check, given_lines, ended_by, read_at, layout_of, entitlement_in, as_looked_at, source, EntitlementCalled, EntitlementCalls}
+use Rattle.railnoise_requests_c.specs.Private.{looked_at, source_of}
+use Rattle.entitlement.proofs.Answers.{all_allowed}
+use Rattle.railnoise_requests_c.proofs.Calls.{layout_few, kept_all}
+use Rattle.std.specs.Prelude.{Option, Some, None, Ok, Err}
 
 -- no refusal has the number 0
 pub number_some : (r : Refusal) → 0 < number_of r
@@ -106,6 +108,22 @@ unfolding entitlement_in
 unread a b c d =
     rw (lines_unread a, lines_unread b, lines_unread c, lines_unread d)
     (read_unread 1 a _ ∙ ap (read_at 1 (as_looked_at a)) (read_unread 2 b _ ∙ ap (read_at 2 (as_looked_at b)) (read_unread 3 c _ ∙ ap (read_at 3 (as_looked_at c)) (read_unread 4 d _))))
+
+-- what is looked at of the texts gives the whole call
+seen_is : (s : Source) → source_of (looked_at s) ≡ as_looked_at s
+seen_is s = go s.empty
+  where
+    go : (b : Bool) → source_of (cond b None (Some s.text)) ≡ source b (cond b [] s.text)
+    go true = refl
+    go false = refl
+
+pub called : (a b c d : Source) {first second third fourth : Option (List ℕ)} → first ≡ looked_at a → second ≡ looked_at b → third ≡ looked_at c → fourth ≡ looked_at d
+    → {r : RailnoiseEntitlementAnswer} → r ≡ entitlement_in (source_of first) (source_of second) (source_of third) (source_of fourth) → EntitlementCalled a b c d r
+called a b c d e f g h q =
+    record {
+      answer = q ∙ rw (e, f, g, h, seen_is a, seen_is b, seen_is c, seen_is d) (sym (unread a b c d));
+      allowed = all_allowed (layout_of a c) (layout_of b d) (layout_few a c) (layout_few b d);
+    }
 
 pub entitlement_calls : EntitlementCalls
 entitlement_calls =

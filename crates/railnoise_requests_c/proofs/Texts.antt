@@ -1,30 +1,26 @@
--- What one text gives, marked as empty or not.
+-- What one text gives, and none.
 -- Assumes nothing.
-use mathlib.Core.Path.{◌≡◌, refl, sym, ◌∙◌, subst}
+use mathlib.Core.Path.{◌≡◌, refl, ap}
 use mathlib.Core.Bool.{Bool, true, false, cond}
 use mathlib.Core.List.{List}
 use Prim.Native.Nat.{ℕ}
-use native.Mathlib.Omega.{arith}
 use borrow.Author.Tests.{lt-ltb}
 use lib.IntN.{ℤ}
 use lib.ListN.{length}
-use Rattle.std.specs.Prelude.{Some, None, Ok, Err}
+use Rattle.std.specs.Prelude.{Some, None, Ok}
 use Rattle.decibel.specs.declared.Level.TheVariants.{Silent}
-use Rattle.figures.specs.declared.Refusal.{Refusal}
-use Rattle.figures.specs.Refusal.{answered, Check}
-use Rattle.study.specs.Plan.{Plan}
 use Rattle.study.specs.Add.{ours}
-use Rattle.request.specs.Levels.{own_marks}
-use Rattle.request.specs.Request.{answer_of, answer_by}
-use Rattle.request.proofs.Demand3.{request_answered}
 use Rattle.text.specs.Text.{read_text}
-use Rattle.text.specs.Answer.{TextAnswer, refused_line, at_line, answer_with, plan_in, text_answer, TextAnswered}
+use Rattle.text.specs.Answer.{plan_in, TextAnswered}
+use Rattle.text.proofs.EnoughCells.{accepted_by, results_are}
 use Rattle.text.proofs.Runs.{text_held}
+use Rattle.request.specs.declared.PeriodResult.{PeriodResult}
+use Rattle.figures.specs.declared.Periods.{Periods}
 use Rattle.text.proofs.Counted.{accepted_text_entry}
 use Rattle.entitlement.specs.Entitlement.{reported_in, entries_kept}
 use Rattle.entitlement.specs.Private.{Few}
 use Rattle.railnoise_requests_c.specs.Entitlement.{Source, source_check, given_lines}
-use Rattle.railnoise_requests_c.specs.Private.{TextGives, TextRefused}
+use Rattle.railnoise_requests_c.specs.Private.{source_of, TextGives}
 
 -- ---- as many entries as a study may hold
 
@@ -48,36 +44,14 @@ accepted-kept s = go s.empty
 
 -- ---- one text
 
-pub empty_gives : (s : Source) → s.empty ≡ true → TextGives s (record { day = Silent; night = Silent })
+pub none_gives : TextGives (source_of None) (record { day = Silent; night = Silent })
 unfolding source_check given_lines reported_in
-empty_gives s e = record { accepted = rw e; day = rw e; night = rw e }
+none_gives = record { accepted = refl; day = refl; night = refl }
 
--- what an answer of its levels gives
-abbrev pub Told : Source → TextAnswer → Type 0
-Told s (Ok both) = TextGives s (record { day = both.day.level; night = both.night.level })
-Told s (Err f) = (place : ℕ) → TextRefused place s (record { place = place; refusal = f.refusal; line = f.line })
-
-module _ (s : Source) (e : s.empty ≡ false) {before after : List ℤ} {r : TextAnswer} (q : TextAnswered s.text before after r) (room : length before ≡ 192) where
-  abbrev plan : Plan
-  plan = plan_in s.text
-
-  answer_is : r ≡ answer_with (read_text ours s.text).check (read_text ours s.text).line plan 192
-  unfolding text_answer
-  answer_is = rw room at q.answer
-
-  -- the request of an accepted text is answered
-  answered_is : (read_text ours s.text).check ≡ Ok tt → r ≡ at_line (read_text ours s.text).line (answer_by (Ok tt) plan (own_marks plan))
-  unfolding answer_with
-  answered_is ok = answer_is ∙ rw (ok, request_answered plan 192 (accepted_text_entry ours s.text ok) (omega (arith, (text_held ours s.text).total)))
-
-  refused_is : (why : Refusal) → (read_text ours s.text).check ≡ Err why → r ≡ refused_line why (read_text ours s.text).line
-  unfolding answer_with
-  refused_is why h = answer_is ∙ rw h
-
-  pub told : Told s r
-  unfolding source_check given_lines reported_in answer_of answered
-  told = go (read_text ours s.text).check refl
-    where
-      go : (k : Check) → (read_text ours s.text).check ≡ k → Told s r
-      go (Err why) h = subst (Told s) (sym (refused_is why h)) (λ place. record { check = rw (e, h); place = refl; line = refl })
-      go (Ok _) h = subst (Told s) (sym (answered_is h)) (record { accepted = rw (e, h); day = rw e; night = rw e })
+-- of the levels that it is answered with
+pub text_gives : (text : List ℕ) {before after : List ℤ} {both : Periods PeriodResult} → TextAnswered text before after (Ok both) → length before ≡ 192
+    → TextGives (source_of (Some text)) (record { day = both.day.level; night = both.night.level })
+unfolding source_check given_lines reported_in
+text_gives text q room =
+    let same = results_are text q room refl in
+    record { accepted = accepted_by text q room refl; day = ap (λ (r : Periods PeriodResult). r.day.level) same; night = ap (λ (r : Periods PeriodResult). r.night.level) same }

@@ -13,7 +13,7 @@ use Rattle.railnoise_requests_c.specs.declared.RailnoiseMergedAnswer.{RailnoiseM
 unfoldable pub exported_merged : MergedAnswer → RailnoiseMergedAnswer
 exported_merged (Ok both) = record { refusal = 0; text = 0; line = 0; day = exported_period both.day; night = exported_period both.night }
 exported_merged (Err f) =
-    record { refusal = number_of f.refusal; text = f.text; line = line_value f.line; day = exported_period silent_result; night = exported_period silent_result }
+    record { refusal = number_of f.fault.refusal; text = f.text; line = line_value f.fault.line; day = exported_period silent_result; night = exported_period silent_result }
 
 -- the whole of a call: by the program's own marks, and 01 allows these
 pub record MergedCalled (first second : List ℕ) (before after : List ℤ) (r : RailnoiseMergedAnswer) : Type 0 where

@@ -1,20 +1,20 @@
 // The later requests for C, over whole texts.
 #![tactic(auto)]
 
-ghost use Rattle.std.specs.Prelude.{◌≡◌, MatchResult};
+ghost use Rattle.std.specs.Prelude.{◌≡◌, MatchResult, option_copied};
 ghost use Rattle.railnoise_requests_c.specs.Entitlement.{exported_combined, exported_entitlement_period, exported_entitlement, source, entitlement_in, EntitlementCalled};
 ghost use Rattle.railnoise_requests_c.specs.Merged.{exported_merged, MergedCalled};
 ghost use Rattle.railnoise_requests_c.specs.Speed.{period_by, exported_speed, SpeedCalled};
-ghost use Rattle.railnoise_requests_c.specs.Private.{given_source, TextGives, TextRefused, exported_told};
+ghost use Rattle.railnoise_requests_c.specs.Private.{source_of, looked_at, TextGives, Refused, exported_told};
 
 use c_values::{RailnoisePeriod, level_value, line_value, period_value};
 use decibel::Level;
-use drawings::{MergedFault, merged_levels};
+use drawings::merged_levels;
 use energy::Total;
 use entitlement::{Change, Entitlement, Levels, PeriodEntitlement, entitlement_by};
-use figures::{Period, Periods, Refusal, check_number};
+use figures::{Period, Periods};
 use request::{MOST_CELLS, PeriodResult};
-use text::{Fault, text_levels};
+use text::{Fault, TextFault, text_levels};
 use text_speeds::text_speed;
 
 // The structs of this file are C's, with flags and numbers. `railnoise_combined`: the level in tenths, 0 when silent.
@@ -70,14 +70,6 @@ pub struct RailnoiseSpeedAnswer {
     pub speed: u32,
 }
 
-// Why a text ends the request for entitlement: its place among the four, from 1, its refusal and the line at fault.
-#[derive(Clone, Copy)]
-struct TextFault {
-    place: u32,
-    refusal: Refusal,
-    line: usize,
-}
-
 #[tactic(auto, unfolding(c_values::specs::Values::level_value), using(decibel::proofs::Words::back))]
 fn combined_of(total: Total) -> RailnoiseCombined
     ensures { result ≡ exported_combined total }
@@ -104,66 +96,67 @@ fn period_of(period: PeriodEntitlement) -> RailnoiseEntitlementPeriod
     }
 }
 
-// An answer with the text that was refused and its line, both 0 where none was.
-#[tactic(auto, unfolding(crate::specs::Entitlement::exported_entitlement, figures::specs::Refusal::check_of))]
-fn answer_of(
-    answer: Result<Entitlement, Refusal>,
-    text: u32,
-    line: usize,
-) -> RailnoiseEntitlementAnswer
-    ensures { result ≡ exported_entitlement answer text line }
+// The conditions, or the number of the refusal with its text and line, and no condition.
+#[tactic(auto, unfolding(crate::specs::Private::exported_told, crate::specs::Entitlement::exported_entitlement, figures::specs::Refusal::check_of, figures::specs::Refusal::check_number))]
+fn answer_of(answer: Result<Entitlement, TextFault>) -> RailnoiseEntitlementAnswer
+    ensures { result ≡ exported_told answer }
 {
-    let refusal = check_number(answer.map(|_| ()));
-    let shown = answer.unwrap_or(Entitlement::silent());
-    RailnoiseEntitlementAnswer {
-        refusal,
-        text,
-        line: line_value(line),
-        day: period_of(shown.day),
-        night: period_of(shown.night),
-        entitled: shown.entitled,
+    match answer {
+        Ok(shown) => RailnoiseEntitlementAnswer {
+            refusal: 0,
+            text: 0,
+            line: 0,
+            day: period_of(shown.day),
+            night: period_of(shown.night),
+            entitled: shown.entitled,
+        },
+        Err(TextFault { text, fault }) => {
+            let shown = Entitlement::silent();
+            RailnoiseEntitlementAnswer {
+                refusal: u32::from(fault.refusal),
+                text,
+                line: line_value(fault.line),
+                day: period_of(shown.day),
+                night: period_of(shown.night),
+                entitled: shown.entitled,
+            }
+        }
     }
 }
 
-// A text as C hands it over, perhaps marked as empty.
-#[derive(Clone, Copy)]
-struct Given<'a> {
-    empty: bool,
-    text: &'a [u8],
+// A text of C's, none where it is marked as empty.
+fn looked_at(text: &[u8], empty: bool) -> Option<&[u8]>
+    ensures { option_copied result ≡ looked_at (source empty text.now) }
+{
+    (!empty).then_some(text)
 }
 
-// The levels that a text's study reports; a text marked as empty is silent and is not looked at.
-fn report_of(place: u32, given: Given<'_>) -> Result<Periods<Level>, TextFault>
-    ensures { MatchResult result (λ r. TextGives (given_source given.entry) r) (λ f. TextRefused place (given_source given.entry) f) }
+// The levels that a text's study reports, its place among the four counted from 1. Where there is none they are silent.
+fn report_of(place: u32, text: Option<&[u8]>) -> Result<Periods<Level>, TextFault>
+    ensures { MatchResult result (λ r. TextGives (source_of (option_copied text.entry)) r) (λ f. Refused place (option_copied text.entry) f) }
 {
-    if given.empty {
+    let Some(text) = text else {
         return Ok(Periods {
             day: Level::Silent,
             night: Level::Silent,
         });
-    }
+    };
     let mut cells = [0i32; MOST_CELLS];
-    match text_levels(given.text, &mut cells) {
-        Ok(results) => Ok(Periods {
-            day: results.day.level,
-            night: results.night.level,
-        }),
-        Err(fault) => Err(TextFault {
-            place,
-            refusal: fault.refusal,
-            line: fault.line,
-        }),
-    }
+    let results = text_levels(text, &mut cells).map_err(|fault| TextFault { text: place, fault })?;
+    Ok(Periods {
+        day: results.day.level,
+        night: results.night.level,
+    })
 }
 
 // Whether the house is entitled, from the texts in the order of C's parameters; the first that is refused ends the request.
 fn entitled(
-    altered_before: Given<'_>,
-    altered_after: Given<'_>,
-    other_before: Given<'_>,
-    other_after: Given<'_>,
+    altered_before: Option<&[u8]>,
+    altered_after: Option<&[u8]>,
+    other_before: Option<&[u8]>,
+    other_after: Option<&[u8]>,
 ) -> Result<Entitlement, TextFault>
-    ensures { exported_told result ≡ entitlement_in (given_source altered_before.entry) (given_source altered_after.entry) (given_source other_before.entry) (given_source other_after.entry) }
+    ensures { exported_told result ≡ entitlement_in (source_of (option_copied altered_before.entry)) (source_of (option_copied altered_after.entry)) (source_of (option_copied other_before.entry)) (source_of (option_copied other_after.entry)) }
 {
     let first = report_of(1, altered_before)?;
     let second = report_of(2, altered_after)?;
@@ -194,7 +187,6 @@ fn entitled(
 
 // Whether a house is entitled, from the texts of the altered lines before and after the works and of the other lines before and after.
 #[unsafe(no_mangle)]
-#[tactic(auto, unfolding(crate::specs::Private::exported_told), using(crate::proofs::Calls::called))]
 pub extern "C" fn railnoise_entitlement(
     altered_before: &[u8],
     altered_before_empty: bool,
@@ -207,32 +199,16 @@ pub extern "C" fn railnoise_entitlement(
 ) -> RailnoiseEntitlementAnswer
     ensures { EntitlementCalled (source altered_before_empty altered_before.now) (source altered_after_empty altered_after.now) (source other_before_empty other_before.now) (source other_after_empty other_after.now) result }
 {
-    let answer = entitled(
-        Given {
-            empty: altered_before_empty,
-            text: altered_before,
-        },
-        Given {
-            empty: altered_after_empty,
-            text: altered_after,
-        },
-        Given {
-            empty: other_before_empty,
-            text: other_before,
-        },
-        Given {
-            empty: other_after_empty,
-            text: other_after,
-        },
-    );
-    match answer {
-        Ok(entitlement) => answer_of(Ok(entitlement), 0, 0),
-        Err(fault) => answer_of(Err(fault.refusal), fault.place, fault.line),
-    }
+    answer_of(entitled(
+        looked_at(altered_before, altered_before_empty),
+        looked_at(altered_after, altered_after_empty),
+        looked_at(other_before, other_before_empty),
+        looked_at(other_after, other_after_empty),
+    ))
 }
 
 #[tactic(auto, unfolding(crate::specs::Merged::exported_merged))]
-fn merged_answer_of(answer: Result<Periods<PeriodResult>, MergedFault>) -> RailnoiseMergedAnswer
+fn merged_answer_of(answer: Result<Periods<PeriodResult>, TextFault>) -> RailnoiseMergedAnswer
     ensures { result ≡ exported_merged answer }
 {
     match answer {
@@ -243,10 +219,10 @@ fn merged_answer_of(answer: Result<Periods<PeriodResult>, MergedFault>) -> Railn
             day: period_value(results.day),
             night: period_value(results.night),
         },
-        Err(fault) => RailnoiseMergedAnswer {
+        Err(TextFault { text, fault }) => RailnoiseMergedAnswer {
             refusal: u32::from(fault.refusal),
             line: line_value(fault.line),
-            text: fault.text,
+            text,
             day: RailnoisePeriod::silent(),
             night: RailnoisePeriod::silent(),
         },

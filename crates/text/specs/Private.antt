@@ -1,4 +1,4 @@
--- What private contracts alone cite: the next line of a text, what it adds, and the answer that it gives.
+-- What private contracts alone cite: the next line of a text, what it adds, the answer that it gives, and the refusal of one of several texts.
 -- Assumes nothing.
 use Rattle.std.specs.Prelude.{◌≡◌, List, [], ◌∷◌, ℕ, ◌<◌, ℤ, length, Ok, Err}
 use Rattle.figures.specs.declared.Segment as figures
@@ -10,7 +10,8 @@ use Rattle.propagation.specs.Propagation.{propagation_of}
 use Rattle.study.specs.Plan.{Plan, empty_plan}
 use Rattle.study.specs.Add.{ours, with_segment, with_train}
 use Rattle.request.specs.Levels.{own_marks, MarksAllowed}
-use Rattle.text.specs.Text.{Reading, Line, ended, lines_of, Kind, segment_kind, train_kind, kinds_of, add_line, refused_at, read_lines, read_from}
+use Rattle.text.specs.Text.{Reading, Line, ended, lines_of, Kind, segment_kind, train_kind, kinds_of, add_line, refused_at, read_lines, read_from, read_text}
+use Rattle.text.specs.declared.TextFault.{TextFault}
 use Rattle.text.specs.Answer.{TextAnswer, answer_with, cells_with}
 use Rattle.figures.specs.Refusal.{Check}
 
@@ -71,3 +72,11 @@ pub record Answers (reading : Reading) (before after : List ℤ) (r : TextAnswer
   pub answer : r ≡ answer_with reading.check reading.line reading.study (length before)
   pub cells : after ≡ cells_with reading.check reading.study before
   pub allowed : MarksAllowed reading.study (own_marks reading.study)
+
+-- ---- one of several texts
+
+-- the text is refused, and its number is told with its refusal and its line
+pub record TextRefused (number : ℕ) (text : List ℕ) (f : TextFault) : Type 0 where
+  pub check : (read_text ours text).check ≡ Err f.fault.refusal
+  pub told : f.text ≡ number
+  pub line : f.fault.line ≡ (read_text ours text).line

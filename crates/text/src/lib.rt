@@ -30,6 +30,14 @@ pub struct Fault {
     pub line: usize,
 }
 
+// Why one of several texts is turned back: its number among them, from 1, and its fault; number and line are 0 where no text is at fault.
+// The C interface tells them by these numbers.
+#[derive(Clone, Copy)]
+pub struct TextFault {
+    pub text: u32,
+    pub fault: Fault,
+}
+
 // The next line of what is left of a text and what follows it, or why there is none: nothing is left, or no line feed ends it.
 fn next_line(text: &[u8]) -> Result<(&[u8], &[u8]), Refusal>
     ensures { MatchResult result (λ r. NextLine text.now r.0.now r.1.now) (λ f. NoLine text.now f) }

@@ -1,7 +1,8 @@
 -- `drawings::drawing_in` meets its contract.
 use Rattle.std.proofs.Common.{arith, rules}
 use Rattle.std.proofs.lemmas.Result.{err_from_is_err_and}
-use Rattle.drawings.proofs.Texts.{text_refused, text_answered, sizes_some, text_gives}
+use Rattle.text.proofs.EnoughCells.{text_refused, text_answered}
+use Rattle.drawings.proofs.Texts.{sizes_some, text_gives}
 use Rattle.drawings.proofs.drawing_in.Goals as goal
 
 pub returns-in_err-answer : goal.returns-in_err-answer

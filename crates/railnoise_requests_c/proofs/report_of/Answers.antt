@@ -1,14 +1,19 @@
 -- `railnoise_requests_c::report_of` meets its contract.
-use mathlib.Core.Path.{refl}
-use Rattle.railnoise_requests_c.specs.Private.{given_source}
-use Rattle.railnoise_requests_c.proofs.Texts.{empty_gives, told}
+use Rattle.std.proofs.Common.{rules, refl}
+use Rattle.std.proofs.lemmas.Result.{err_from_is_err_and}
+use Rattle.text.proofs.EnoughCells.{text_refused, text_answered}
+use Rattle.railnoise_requests_c.proofs.Texts.{none_gives, text_gives}
 use Rattle.railnoise_requests_c.proofs.report_of.Goals as goal
 
-pub returns-then-given : goal.returns-then-given
-returns-then-given c = empty_gives (given_source c.args.given) c.if-given.true
+pub returns-in_default : goal.returns-in_default
+returns-in_default c = rw c.in_default.is none_gives
 
-pub returns-in-Ok : goal.returns-in-Ok
-returns-in-Ok c = told (given_source c.args.given) c.if-given.false c.in-Ok.ensures.answered refl
+pub returns-in_err-results : goal.returns-in_err-results
+returns-in_err-results c =
+    let p = err_from_is_err_and c.from_residual.result c.from_residual.ensures.1 in
+    rw (c.in-Some.is, p.1, p.2) (text_refused c.in-Some.text.now c.text_levels.ensures.answered refl c.args.place (search rules) c.in_err-results.was)
 
-pub returns-in-Err : goal.returns-in-Err
-returns-in-Err c = told (given_source c.args.given) c.if-given.false c.in-Err.ensures.answered refl c.args.place
+pub returns : goal.returns
+returns c =
+    let q = c.text_levels.ensures.answered in
+    rw c.in-Some.is (text_gives c.in-Some.text.now (rw (text_answered c.in-Some.text.now q refl c.args.place (search rules) c.in_ok-results.was) at q) refl)
