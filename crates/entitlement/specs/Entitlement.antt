@@ -8,11 +8,13 @@ use Rattle.decibel.specs.declared.Level.{Level}
 use Rattle.decibel.specs.declared.Level.TheVariants.{Silent, Figure}
 use Rattle.figures.specs.declared.Period.{Period}
 use Rattle.figures.specs.declared.Period.TheVariants.{Day, Night}
+use Rattle.figures.specs.declared.Periods.{Periods}
 use Rattle.figures.specs.declared.Refusal.{Refusal}
 use Rattle.figures.specs.declared.Refusal.TheVariants.{NoEntry}
 use Rattle.figures.specs.Refusal.{unless, Check, answered}
 use Rattle.figures.specs.Rules.{lowest_number}
 use Rattle.study.specs.Plan.{Plan}
+use Rattle.request.specs.declared.PeriodResult.{PeriodResult}
 use Rattle.request.specs.Levels.{result_by, own_marks, MarksAllowed}
 use Rattle.entitlement.specs.declared.Layout.{Layout}
 use Rattle.entitlement.specs.declared.Change.{Change}
@@ -34,6 +36,11 @@ plans_of x = record { altered = option_copied x.altered; other = option_copied x
 unfoldable pub reported_in : Period → Lines → Level
 reported_in p None = Silent
 reported_in p (Some plan) = (result_by p plan (own_marks plan)).level
+
+-- both periods' levels, of what is answered
+abbrev pub reported : Option (Periods PeriodResult) → Periods Level
+reported None = record { day = Silent; night = Silent }
+reported (Some results) = record { day = results.day.level; night = results.night.level }
 
 unfoldable pub levels_in : Period → Layout Lines → Layout Level
 levels_in p x = record { altered = reported_in p x.altered; other = reported_in p x.other }

@@ -6,13 +6,13 @@ ghost use Rattle.std.specs.Prelude.{◌≡◌, option_copied};
 ghost use Rattle.figures.specs.Refusal.{check_number, check_of};
 ghost use Rattle.request.specs.Levels.{cell_of};
 ghost use Rattle.entitlement.specs.Conditions.{combined, exceeds, period_of};
-ghost use Rattle.entitlement.specs.Entitlement.{plans_of, held, held_change, silent_entitlement, EntitlementAnsweredBy, EntitlementAnswered, entitlement_number};
+ghost use Rattle.entitlement.specs.Entitlement.{plans_of, reported, held, held_change, silent_entitlement, EntitlementAnsweredBy, EntitlementAnswered, entitlement_number};
 ghost use Rattle.entitlement.specs.Private.{Few, LayoutFew, report, layout_report};
 
 use decibel::Level;
 use energy::{LEAST_LEVEL, MOST_LEVEL, SILENT_CELL, Total};
 use figures::{Period, Periods, Refusal};
-use request::MOST_CELLS;
+use request::{MOST_CELLS, PeriodResult};
 use study::Study;
 
 // 1.0 dB in tenths.
@@ -161,6 +161,22 @@ pub fn entitlement_by(day: Change, night: Change) -> Entitlement
     }
 }
 
+// The levels that lines report, from what is answered of their study; silence where they have none.
+pub fn reported(results: Option<Periods<PeriodResult>>) -> Periods<Level>
+    ensures { result ≡ reported results }
+{
+    match results {
+        Some(results) => Periods {
+            day: results.day.level,
+            night: results.night.level,
+        },
+        None => Periods {
+            day: Level::Silent,
+            night: Level::Silent,
+        },
+    }
+}
+
 // What lines report: 23, or the level of each period. Lines that are marked as empty are silent.
 #[tactic(auto, using(crate::proofs::Reports::empty_reports))]
 fn report_of(lines: Option<&Study>) -> Result<Periods<Level>, Refusal>
@@ -168,19 +184,13 @@ fn report_of(lines: Option<&Study>) -> Result<Periods<Level>, Refusal>
     ensures few { Few (option_copied lines.entry) }
 {
     let Some(study) = lines else {
-        return Ok(Periods {
-            day: Level::Silent,
-            night: Level::Silent,
-        });
+        return Ok(reported(None));
     };
     // As many cells as the entries need.
     let mut cells = [0i32; MOST_CELLS];
     let total = study.entries().len();
     let answer = request::levels(study, &mut cells[..total + total])?;
-    Ok(Periods {
-        day: answer.day.level,
-        night: answer.night.level,
-    })
+    Ok(reported(Some(answer)))
 }
 
 // What both lines of a layout report. Each is asked before a refusal of either ends it: what is promised of marks holds of all four studies.

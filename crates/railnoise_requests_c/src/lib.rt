@@ -11,7 +11,7 @@ use c_values::{RailnoisePeriod, level_value, line_value, period_value};
 use decibel::Level;
 use drawings::merged_levels;
 use energy::Total;
-use entitlement::{Change, Entitlement, Levels, PeriodEntitlement, entitlement_by};
+use entitlement::{Change, Entitlement, Levels, PeriodEntitlement, entitlement_by, reported};
 use figures::{Period, Periods};
 use request::{MOST_CELLS, PeriodResult};
 use text::{Fault, TextFault, text_levels};
@@ -136,17 +136,11 @@ fn report_of(place: u32, text: Option<&[u8]>) -> Result<Periods<Level>, TextFaul
     ensures { MatchResult result (λ r. TextGives (source_of (option_copied text.entry)) r) (λ f. Refused place (option_copied text.entry) f) }
 {
     let Some(text) = text else {
-        return Ok(Periods {
-            day: Level::Silent,
-            night: Level::Silent,
-        });
+        return Ok(reported(None));
     };
     let mut cells = [0i32; MOST_CELLS];
     let results = text_levels(text, &mut cells).map_err(|fault| TextFault { text: place, fault })?;
-    Ok(Periods {
-        day: results.day.level,
-        night: results.night.level,
-    })
+    Ok(reported(Some(results)))
 }
 
 // Whether the house is entitled, from the texts in the order of C's parameters; the first that is refused ends the request.

@@ -10,4 +10,4 @@ returns-in_err-answer-clause-answer c =
     rw (p.1, p.2, c.in-Some.is) (sym (study_reports c.in_err-answer.ensures.answered c.entries-total.ensures.is (search (rules, arith))))
 
 pub returns-clause-answer : goal.returns-clause-answer
-returns-clause-answer c = rw c.in-Some.is (sym (study_reports c.in_ok-answer.ensures.answered c.entries-total.ensures.is (search (rules, arith))))
+returns-clause-answer c = rw (c.in-Some.is, c.reported-2.ensures) (sym (study_reports c.in_ok-answer.ensures.answered c.entries-total.ensures.is (search (rules, arith))))

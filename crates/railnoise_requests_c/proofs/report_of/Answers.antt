@@ -6,7 +6,7 @@ use Rattle.railnoise_requests_c.proofs.Texts.{none_gives, text_gives}
 use Rattle.railnoise_requests_c.proofs.report_of.Goals as goal
 
 pub returns-in_default : goal.returns-in_default
-returns-in_default c = rw c.in_default.is none_gives
+returns-in_default c = rw (c.in_default.is, c.reported.ensures) none_gives
 
 pub returns-in_err-results : goal.returns-in_err-results
 returns-in_err-results c =
@@ -16,4 +16,4 @@ returns-in_err-results c =
 pub returns : goal.returns
 returns c =
     let q = c.text_levels.ensures.answered in
-    rw c.in-Some.is (text_gives c.in-Some.text.now (rw (text_answered c.in-Some.text.now q refl c.args.place (search rules) c.in_ok-results.was) at q) refl)
+    rw (c.in-Some.is, c.reported-2.ensures) (text_gives c.in-Some.text.now (rw (text_answered c.in-Some.text.now q refl c.args.place (search rules) c.in_ok-results.was) at q) refl)
