@@ -206,6 +206,7 @@ pub fn in_shadow(s: Segment) -> bool
 }
 
 // There is no screen.
+#[tactic(auto, using(crate::proofs::Same::screen_none))]
 pub fn is_unscreened(s: Segment) -> bool
     ensures { result ≡ unscreened s }
 {
