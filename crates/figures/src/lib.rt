@@ -153,7 +153,7 @@ impl From<Refusal> for u32 {
     }
 }
 
-// The number of a check, 0 where nothing is refused.
+// The number of a check, 0 where nothing is refused, as C's answers hold it.
 #[tactic(auto, unfolding(crate::specs::Refusal::check_number))]
 pub fn check_number(check: Result<(), Refusal>) -> u32
     ensures { result ≡ check_number check }
