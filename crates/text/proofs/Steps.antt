@@ -1,6 +1,7 @@
 -- What the next line adds: a segment's, and a train's.
 -- Assumes nothing.
-use Rattle.std.proofs.Common.{◌≡◌, ℕ, List, None, Some, sym, refl, ◌∙◌, Ok, Err, arith}
+use Rattle.std.proofs.Common.{◌≡◌, ℕ, List, Option, None, Some, sym, refl, ◌∙◌, Result, Ok, Err, arith}
+use Rattle.std.specs.Option.{ok_or}
 use Rattle.figures.specs.declared.Segment.{Segment}
 use Rattle.figures.specs.declared.Train.{Train}
 use Rattle.figures.specs.declared.Refusal.{Refusal}
@@ -13,6 +14,11 @@ use Rattle.study.specs.Add.{ours, segment_answer, segment_judgement, train_answe
 use Rattle.lines.specs.Lines.{segment_of, train_of}
 use Rattle.text.specs.Text.{ended, Kind, segment_kind, train_kind, add_line}
 use Rattle.text.specs.Private.{NextLine, Took, LineRefused, first_adds, SegmentTaken, SegmentFault, TrainTaken, TrainFault}
+
+-- what `ok_or` finds is there
+pub found : {A : Type 0} (o : Option A) {all : Option A} {r : Result A Refusal} {x : A} → r ≡ ok_or o R.Form → r ≡ Ok x → o ≡ all → Some x ≡ all
+found None e f g = let z : ◌≡◌ {A = ℕ} 0 1 = cc in absurd (omega arith)
+found (Some y) e f g = cc
 
 module _ {text line rest : List ℕ} (n : NextLine text line rest) where
   -- what the line adds is what the next line adds

@@ -54,9 +54,7 @@ fn add_segment_line<'a>(text: &'a [u8], study: &mut Study) -> Result<&'a [u8], R
     ensures { MatchResult result (λ r. Took segment_kind study.old text.now r.now study.new) (λ f. LineRefused segment_kind study.old text.now f) }
 {
     let (line, rest) = next_line(text)?;
-    let Some(segment) = segment_of(line) else {
-        return Err(Refusal::Form);
-    };
+    let segment = segment_of(line).ok_or(Refusal::Form)?;
     study.add_segment(segment)?;
     Ok(rest)
 }
@@ -67,9 +65,7 @@ fn add_train_line<'a>(text: &'a [u8], study: &mut Study) -> Result<&'a [u8], Ref
     ensures { MatchResult result (λ r. Took train_kind study.old text.now r.now study.new) (λ f. LineRefused train_kind study.old text.now f) }
 {
     let (line, rest) = next_line(text)?;
-    let Some(train) = train_of(line) else {
-        return Err(Refusal::Form);
-    };
+    let train = train_of(line).ok_or(Refusal::Form)?;
     study.add_train(train)?;
     Ok(rest)
 }
@@ -146,9 +142,7 @@ fn segment_at(text: &[u8], count: usize) -> Result<(Propagation, &[u8]), Refusal
     ensures { MatchResult result (λ r. SegmentTaken count text.now r.0 r.1.now) (λ f. SegmentFault count text.now f) }
 {
     let (line, rest) = next_line(text)?;
-    let Some(segment) = segment_of(line) else {
-        return Err(Refusal::Form);
-    };
+    let segment = segment_of(line).ok_or(Refusal::Form)?;
     let adds = segment_judgement(count, segment)?;
     Ok((adds, rest))
 }
@@ -159,9 +153,7 @@ fn train_at(text: &[u8], count: usize, total: usize) -> Result<(Train, &[u8]), R
     ensures { MatchResult result (λ r. TrainTaken count total text.now r.0 r.1.now) (λ f. TrainFault count total text.now f) }
 {
     let (line, rest) = next_line(text)?;
-    let Some(train) = train_of(line) else {
-        return Err(Refusal::Form);
-    };
+    let train = train_of(line).ok_or(Refusal::Form)?;
     train_answer(count, total, train)?;
     Ok((train, rest))
 }
