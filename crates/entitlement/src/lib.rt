@@ -58,14 +58,12 @@ pub struct Entitlement {
 }
 
 impl Entitlement {
-    // What is shown beside a refusal: every level silent and unmarked, no condition, nothing entitled.
+    // What is shown beside a refusal: every level silent and unmarked, no condition, nothing entitled. By name and field by field: a derived
+    // `Default` would leave unsaid that a refused request holds no condition.
     pub fn silent() -> Self
         ensures { result ≡ silent_entitlement }
     {
-        let silent = Total {
-            level: Level::Silent,
-            close: false,
-        };
+        let silent = Total::default();
         let period = PeriodEntitlement {
             prevailing: silent,
             relevant: silent,
@@ -170,10 +168,7 @@ pub fn reported(results: Option<Periods<PeriodResult>>) -> Periods<Level>
             day: results.day.level,
             night: results.night.level,
         },
-        None => Periods {
-            day: Level::Silent,
-            night: Level::Silent,
-        },
+        None => Periods::default(),
     }
 }
 

@@ -5,7 +5,8 @@ ghost use Rattle.lines.specs.Lines.{segment_of, train_of};
 use crate::numbers::Numbers;
 use figures::{Segment, Train};
 
-// The 15 numbers of a segment's line. Not one function with the train's: each number goes to a field of its own, by name.
+// The 15 numbers of a segment's line, each by a `let .. else` of its own, the form that the project's scope asks for here. Not one function
+// with the train's: each number goes to a field of its own, by name.
 pub fn segment_of(line: &[u8]) -> Option<Segment>
     ensures { result ≡ segment_of line.now }
 {

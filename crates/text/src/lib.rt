@@ -70,7 +70,8 @@ fn add_train_line<'a>(text: &'a [u8], study: &mut Study) -> Result<&'a [u8], Ref
     Ok(rest)
 }
 
-// The lines after the contents, each added to the study in turn.
+// The lines after the contents, each added to the study in turn. The loops are left from the inside by a label, here and in `answer_lines`:
+// the form that the project's scope asks for.
 fn read_lines(text: &[u8], counts: &[usize]) -> Result<Study, Fault>
     ensures { reading_of result ≡ body_reading counts.now text.now }
 {
