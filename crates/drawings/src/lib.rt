@@ -65,6 +65,7 @@ fn sizes_of(text: &[u8]) -> Option<Sizes>
 fn marked_segments(close: u32, levels: &[i32]) -> u32
     ensures { result ≡ close - total_marks levels.now }
 {
+    // Then the total has no mark, and need not be made.
     if close == 0 {
         return 0;
     }

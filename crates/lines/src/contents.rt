@@ -44,6 +44,7 @@ pub fn contents_of<const N: usize>(
     let mut counts = ArrayVec::new();
     let mut sum = Some(0);
     let mut others = 0;
+    // No iterator: where the numbers end, it is asked whether a word is left.
     while let Some(value) = numbers.next_number() {
         sum = with_count(sum, value, entries, &mut counts);
         others += 1;
@@ -51,6 +52,7 @@ pub fn contents_of<const N: usize>(
     if !numbers.is_empty() || announced != others {
         return Err(Refusal::Form);
     }
+    // One refusal for counts out of range and for no entry in all; the arms of a match lose that the sum is not 0.
     if sum.unwrap_or(0) == 0 {
         return Err(Refusal::Contents);
     }

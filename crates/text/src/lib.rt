@@ -23,7 +23,7 @@ const MOST_BYTES: usize = 16384;
 // The number of the first line after the contents.
 const SECOND_LINE: usize = 2;
 
-// Why a text is turned back, and the line at fault, 0 where none is.
+// Why a text is turned back, and the line at fault, 0 where none is, as C is told it.
 #[derive(Clone, Copy)]
 pub struct Fault {
     pub refusal: Refusal,
