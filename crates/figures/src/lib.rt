@@ -84,42 +84,45 @@ impl<T: Copy> Periods<T> {
     }
 }
 
-// Why something is turned back, in the order of the documents' numbers.
+// Why something is turned back, each with the documents' number.
 #[derive(Clone, Copy)]
 pub enum Refusal {
-    // 1: distance
-    Distance,
-    // 2: window height or mean height of propagation
-    Height,
-    // 3: share of soft ground
-    Ground,
-    // 4: angle of view or the doubled angle
-    Angle,
-    // 5: screen, its place, its top, Chart 6(c), far wall, or ballast with a screen
-    Screen,
-    // 6: in shadow, path difference above 2.5 m
-    Shadow,
-    // 7: Table 1, ballast, facade or opposite angle
-    Reading,
-    // 8 to 11: vehicle row, speed, vehicles, trains
-    Row,
-    Speed,
-    Vehicles,
-    Trains,
-    // 12: a text out of form
-    Form,
-    // 13: contents out of range, a line missing or extra
-    Contents,
-    // 20 to 22: a train before any segment, too many segments, too many entries
-    NoSegment,
-    SegmentLimit,
-    EntryLimit,
-    // 23 and 24: levels asked without an entry, or with too few working cells
-    NoEntry,
-    FewCells,
-    // 25 and 26: the highest speed asked of an entry that is not there, or where no speed stays below the limit
-    EntryNumber,
-    NoSpeed,
+    Distance = 1,
+    // window height or mean height of propagation
+    Height = 2,
+    // share of soft ground
+    Ground = 3,
+    // angle of view or the doubled angle
+    Angle = 4,
+    // screen, its place, its top, Chart 6(c), far wall, or ballast with a screen
+    Screen = 5,
+    // in shadow, path difference above 2.5 m
+    Shadow = 6,
+    // Table 1, ballast, facade or opposite angle
+    Reading = 7,
+    // vehicle row
+    Row = 8,
+    Speed = 9,
+    Vehicles = 10,
+    Trains = 11,
+    // a text out of form
+    Form = 12,
+    // contents out of range, a line missing or extra
+    Contents = 13,
+    // a train before any segment
+    NoSegment = 20,
+    // too many segments
+    SegmentLimit = 21,
+    // too many entries
+    EntryLimit = 22,
+    // levels asked without an entry
+    NoEntry = 23,
+    // levels asked with too few working cells
+    FewCells = 24,
+    // the highest speed asked of an entry that is not there
+    EntryNumber = 25,
+    // the highest speed asked where none stays below the limit
+    NoSpeed = 26,
 }
 
 // The documents' number of a refusal.
@@ -128,28 +131,7 @@ impl From<Refusal> for u32 {
 
     #[tactic(auto, unfolding(crate::specs::Refusal::number_of))]
     fn from(refusal: Refusal) -> u32 {
-        match refusal {
-            Refusal::Distance => 1,
-            Refusal::Height => 2,
-            Refusal::Ground => 3,
-            Refusal::Angle => 4,
-            Refusal::Screen => 5,
-            Refusal::Shadow => 6,
-            Refusal::Reading => 7,
-            Refusal::Row => 8,
-            Refusal::Speed => 9,
-            Refusal::Vehicles => 10,
-            Refusal::Trains => 11,
-            Refusal::Form => 12,
-            Refusal::Contents => 13,
-            Refusal::NoSegment => 20,
-            Refusal::SegmentLimit => 21,
-            Refusal::EntryLimit => 22,
-            Refusal::NoEntry => 23,
-            Refusal::FewCells => 24,
-            Refusal::EntryNumber => 25,
-            Refusal::NoSpeed => 26,
-        }
+        refusal as u32
     }
 }
 
