@@ -107,6 +107,8 @@ def energy_tables():
 
 
 CRATES = {"small_logs": small_logs, "decibel_tables": decibel_tables, "energy_tables": energy_tables}
+# What is said of a table beside its formula, in its array's file alone.
+BESIDE = {"mark_begin": "Two arrays and no pairs: a search walks the first alone, and each is its formula's list by a law of its own."}
 WRITTEN = "written by tools/tables.py from the formulas, in whole numbers."
 
 
@@ -138,7 +140,8 @@ def array(values):
 def source(tables):
     text = f"// Tables that the crates above read in place: each is the list of its name in specs/Lists.antt (proofs/Arrays.antt).\n// {WRITTEN.capitalize()}\n"
     for name, says, kind, values in tables:
-        text += f"\n// {says}.\npub static {name.upper()}: [{kind}; {len(values)}] = [\n{array(values)}\n];\n"
+        beside = f"// {BESIDE[name]}\n" if name in BESIDE else ""
+        text += f"\n// {says}.\n{beside}pub static {name.upper()}: [{kind}; {len(values)}] = [\n{array(values)}\n];\n"
     return text
 
 

@@ -126,6 +126,7 @@ pub static POWER: [u64; 16] = [
 ];
 
 // Where the mark at each tie of a total begins, the 0th none.
+// Two arrays and no pairs: a search walks the first alone, and each is its formula's list by a law of its own.
 pub static MARK_BEGIN: [u64; 200] = [
     0,
     1011230000000000,
