@@ -13,7 +13,7 @@ pub(crate) fn air_step(ranged: InRange) -> i32
     let s = ranged.segment;
     let square = 6400 * slant_of(s.distance, s.height);
     let mut passed: u64 = natural(s.distance) / 1250;
-    // a loop by value: no index of a list is counted
+    // what is asked is how many steps it takes: a `find` over a range would test the same numbers, its end made up
     while (100000 * passed + 50000) * (100000 * passed + 50000) < square {
         passed += 1;
     }

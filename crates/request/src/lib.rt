@@ -32,7 +32,8 @@ pub struct PeriodResult {
     pub met: bool,
 }
 
-// An entry's level as its working cell holds it, from what its segment adds and what its train emits.
+// An entry's level as its working cell holds it, from what its segment adds and what its train emits. Not emission's `raise` and then
+// entitlement's `cell_of`: this adds on the way, and keeps to 32 bits by its `requires`, while that of entitlement takes any level.
 fn cell_of(tenths: i16, emission: Level) -> i32
     requires { SmallLevel 10000 emission }
     ensures { result ≡ cell_of (raised tenths emission) }
@@ -54,7 +55,7 @@ pub fn entry_cells(tenths: i16, train: Train) -> Periods<i32>
     }
 }
 
-// What the segment at a place adds; nothing where there is none.
+// What the segment at a place adds; nothing where there is none. It looks it up, where `tenths_at` of speeds computes it of the segment.
 fn tenths_at(added: &[Propagation], place: usize) -> i16
     ensures { result ≡ get_or (tenths_of added.now) place (pos 0) }
 {

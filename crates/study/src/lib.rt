@@ -18,7 +18,8 @@ pub const MOST_SEGMENTS: usize = 24;
 
 pub const MOST_ENTRIES: usize = 96;
 
-// A train entry with the place of its segment, from 0.
+// A train entry with the place of its segment, from 0. Memory is fixed: lists of entries within the segments would need room for 96 in each
+// of the 24.
 #[derive(Clone, Copy, Default)]
 pub struct Entry {
     pub segment: usize,
