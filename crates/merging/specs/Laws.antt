@@ -42,6 +42,7 @@ pub record MergeLaws (l : Limits) : Type 0 where
   pub extra_segment : (first second : Plan) → (check_number (merged l first second).check ≡ 21) ↔ (l.segments < segments_together first second)
   pub extra_entry : (first second : Plan) → (check_number (merged l first second).check ≡ 22) ↔ ((segments_together first second ≤ l.segments) × (l.entries < entries_together first second))
   pub else_accepted : (first second : Plan) → segments_together first second ≤ l.segments → entries_together first second ≤ l.entries → (merged l first second).check ≡ Ok tt
+  -- of `merged`, for `merge` hands out no study with a refusal: by its contract (`first: &Study`) the caller has the first still
   pub given_back : (first second : Plan) (r : Refusal) → (merged l first second).check ≡ Err r → (merged l first second).study ≡ first
   -- of the studies of two lists of additions: an accepted merge holds the two lists joined, so that nothing is refused on the way, and a refused one the first's
   pub lists : (xs ys : List Addition) → (merged l (run l xs) (run l ys)).study ≡ merged_plan l (accepted l xs) (accepted l ys)
