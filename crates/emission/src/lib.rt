@@ -16,6 +16,7 @@ use decibel::Level;
 use figures::ranges::train_check;
 use figures::{Period, Periods, Train};
 use kept::Kept;
+pub use speed::LEAST_COUNTED;
 
 // What each step of a train adds, in tenths: the trains step by period, silent where it does not run.
 #[derive(Clone, Copy, Default)]

@@ -8,7 +8,7 @@ use crate::kept::Kept;
 use figures::{Train, natural};
 
 // Where the method's range of speeds begins, in km/h.
-const LEAST_COUNTED: u64 = 20;
+pub const LEAST_COUNTED: u64 = 20;
 
 // A slower train counts as at that speed.
 #[tactic(auto, unfolding(crate::specs::Speed::counted_speed))]

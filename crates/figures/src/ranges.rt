@@ -48,7 +48,7 @@ const MOST_ROW: i32 = 34;
 // Speeds in km/h.
 const LEAST_SPEED: i32 = 1;
 
-const MOST_SPEED: i32 = 300;
+pub const MOST_SPEED: i32 = 300;
 
 // Vehicles of a train.
 const MOST_VEHICLES: i32 = 60;
