@@ -9,7 +9,7 @@ use crate::kept::InRange;
 use figures::natural;
 
 // Ground, or the screen instead of it, in tenths, and the ground's close mark.
-#[derive(Clone, Copy)]
+#[derive(Clone, Copy, Default)]
 pub(crate) struct Path {
     pub(crate) tenths: i32,
     pub(crate) close: bool,
@@ -54,10 +54,7 @@ pub(crate) fn ground_step(ranged: InRange) -> Path
 {
     let s = ranged.segment;
     if natural(s.distance) <= 2500 {
-        return Path {
-            tenths: 0,
-            close: false,
-        };
+        return Path::default();
     }
     let a = attenuation_of(ranged);
     Path {
