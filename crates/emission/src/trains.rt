@@ -20,6 +20,7 @@ fn trains_in(train: Train, period: Period) -> u64
 }
 
 // What a period's hours take off, in tenths.
+#[tactic(auto, unfolding(crate::specs::Trains::hours_tenths))]
 fn hours(period: Period) -> i32
     ensures { result ≡ pos (hours_tenths period) }
 {

@@ -82,6 +82,7 @@ fn close_segments(levels: &[i32], entries: &[Entry], added: &[Propagation]) -> u
 }
 
 // The tenths from which a level meets the period's limit.
+#[tactic(auto, unfolding(crate::specs::Levels::limit_of))]
 fn limit_tenths(period: Period) -> i32
     ensures { result ≡ pos (10 * limit_of period - 5) }
 {
@@ -134,6 +135,7 @@ pub fn write_levels(levels: &[i32], cells: &mut [i32], at: usize)
 }
 
 // Where a period's levels begin among the cells of so many entries: the day's come first.
+#[tactic(auto, unfolding(crate::specs::Request::first_cell))]
 pub fn first_cell(period: Period, entries: usize) -> usize
     ensures { result ≡ first_cell period entries }
 {
