@@ -65,6 +65,9 @@ facade_lies s = go (within (pos 1) (pos 1) s.facade)
 abbrev made : (distance air angle opposite path : ℤ) → Bool → (facade chart track ballast : ℤ) → SegmentBreakdown
 made d a v o p m f c t b = record { distance = d; air = a; angle = v; opposite = o; path = p; close = m; facade = f; chart = c; track = t; ballast = b }
 
+abbrev pub no_parts : SegmentBreakdown
+no_parts = made (pos 0) (pos 0) (pos 0) (pos 0) (pos 0) false (pos 0) (pos 0) (pos 0) (pos 0)
+
 -- a figure as it is read is small
 figure_read : {v r : ℤ} → r ≡ v → Below 2000 v → Exactly v (read r)
 figure_read e b = returned (lit≤ tt) e (subst (Below 2000) (sym e) b)
@@ -111,7 +114,7 @@ module _ (s : Segment) where
   unfolding segment_breakdown_of
   accepted_parts {b} e p = subst (λ (v : SegmentBreakdown). SegmentParted v b) (accepted_breakdown (ground_mark s) e) p
 
-  pub refused_parts : {k : Refusal} → segment_check s ≡ Err k → SegmentParted (segment_breakdown_of s) (made (pos 0) (pos 0) (pos 0) (pos 0) (pos 0) false (pos 0) (pos 0) (pos 0) (pos 0))
+  pub refused_parts : {k : Refusal} → segment_check s ≡ Err k → SegmentParted (segment_breakdown_of s) no_parts
   unfolding segment_breakdown_of no_segment_parts
   refused_parts e =
       let zero : Below 2000 (pos 0) = natural_below (lit< tt) in

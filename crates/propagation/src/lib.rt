@@ -93,15 +93,11 @@ fn parts_of(kept: Kept) -> SegmentBreakdown
 }
 
 // The parts of a segment; nothing of a refused one.
-#[tactic(auto, unfolding(crate::specs::Private::Judges), using(crate::proofs::SegmentSum::accepted_parts, crate::proofs::SegmentSum::refused_parts, crate::proofs::SegmentSum::mark_allowed))]
 pub fn segment_breakdown_of(s: Segment) -> SegmentBreakdown
     ensures is { SegmentParted (segment_breakdown_of s) result }
     ensures allowed { SegmentMark s result.close }
 {
-    match check::judge(s) {
-        Ok(kept) => parts_of(kept),
-        Err(_) => SegmentBreakdown::default(),
-    }
+    check::judge(s).map(parts_of).unwrap_or_default()
 }
 
 // The facade and the readings of Chart 6(c), Table 1 and ballast.

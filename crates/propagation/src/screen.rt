@@ -60,10 +60,7 @@ fn path_difference(ranged: InRange) -> u64
 pub(crate) fn difference_of(ranged: InRange) -> Option<u64>
     ensures { result ≡ difference_of ranged.segment }
 {
-    if figures::is_unscreened(ranged.segment) {
-        return None;
-    }
-    Some(path_difference(ranged))
+    (!figures::is_unscreened(ranged.segment)).then(|| path_difference(ranged))
 }
 
 // The formulas, for a path difference of m.
