@@ -47,6 +47,7 @@ fn train_parts_of(kept: Kept) -> TrainBreakdown
 pub fn train_breakdown_of(train: Train) -> TrainBreakdown
     ensures { TrainParted (train_breakdown_of train) result }
 {
+    // no `map` and default: its closure would have to be told by a clause that the train keeps its lines
     match train_check(train) {
         Ok(()) => train_parts_of(Kept { train }),
         Err(_) => TrainBreakdown::default(),
