@@ -5,10 +5,6 @@ use figures::{Period, Segment, Train};
 use std::io;
 use study::Study;
 
-const LEAST_LIMIT: i32 = -2147483648;
-
-const MOST_LIMIT: i32 = 2147483647;
-
 fn open_segment() -> Segment {
     Segment {
         height: 180,
@@ -146,12 +142,12 @@ fn show_absent(rt: &impl Print) -> io::Result<()> {
     show_speed(rt, &empty, 0, Period::Day, 60)?;
     show_speed(rt, &empty, 1, Period::Day, 60)?;
     show_speed(rt, &empty, 96, Period::Day, 60)?;
-    show_speed(rt, &empty, 1, Period::Night, LEAST_LIMIT)?;
+    show_speed(rt, &empty, 1, Period::Night, i32::MIN)?;
     println!(rt; "# Highest speed: segments without an entry")?;
     let segments = with_segments(2);
     show_speed(rt, &segments, 0, Period::Day, 60)?;
     show_speed(rt, &segments, 1, Period::Day, 60)?;
-    show_speed(rt, &segments, 2, Period::Night, LEAST_LIMIT)
+    show_speed(rt, &segments, 2, Period::Night, i32::MIN)
 }
 
 fn show_worked(rt: &impl Print) -> io::Result<()> {
@@ -163,15 +159,15 @@ fn show_worked(rt: &impl Print) -> io::Result<()> {
         &study,
         1,
         Period::Day,
-        &[50, 60, 64, 66, 67, 68, 70, 75, LEAST_LIMIT, MOST_LIMIT],
+        &[50, 60, 64, 66, 67, 68, 70, 75, i32::MIN, i32::MAX],
     )?;
-    show_speeds(rt, &study, 1, Period::Night, &[43, 44, 50, LEAST_LIMIT])?;
+    show_speeds(rt, &study, 1, Period::Night, &[43, 44, 50, i32::MIN])?;
     show_speeds(rt, &study, 2, Period::Day, &[64, 66])?;
     show_speeds(rt, &study, 2, Period::Night, &[30, 43, 50])?;
     show_speeds(rt, &study, 3, Period::Day, &[64, 65])?;
     show_speeds(rt, &study, 3, Period::Night, &[43, 44, 45])?;
     show_speed(rt, &study, 4, Period::Day, 60)?;
-    show_speed(rt, &study, 18446744073709551615, Period::Day, 60)
+    show_speed(rt, &study, usize::MAX, Period::Day, 60)
 }
 
 // A refused train counts as no entry, and a refused segment takes none.
@@ -210,7 +206,7 @@ fn show_silent(rt: &impl Print) -> io::Result<()> {
     println!(rt; "# Highest speed: no trains by night")?;
     let mut study = with_one(plain_segment(1000), train(1, 100, 1, 0, 0));
     let _ = study.add_train(train(1, 100, 1, 1, 0));
-    let limits = [LEAST_LIMIT, -1, 0, 60, MOST_LIMIT];
+    let limits = [i32::MIN, -1, 0, 60, i32::MAX];
     show_speeds(rt, &study, 1, Period::Night, &limits)?;
     show_speeds(rt, &study, 2, Period::Night, &limits)?;
     show_speeds(rt, &study, 1, Period::Day, &[42, 43])?;

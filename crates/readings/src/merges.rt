@@ -1,7 +1,8 @@
-// Merges of studies that no two texts can show: studies without entries, the empty study, and what a refused merge gives back.
+// Merges of studies that no two texts can show: studies without entries and the empty study; and refused merges, which give nothing back,
+// so that the first study is shown.
 use crate::additions::{add_trains, plain_segment, show, with_segments};
 use crate::entitlements::show_level;
-use decibel::Level;
+use entitlement::reported;
 use request::MOST_CELLS;
 use std::io;
 use study::Study;
@@ -34,11 +35,9 @@ fn show_trial(rt: &impl Print, title: &str, first: &Study, second: &Study) -> io
     let mut cells = [0i32; MOST_CELLS];
     let answer = request::levels(study, &mut cells);
     show(rt, "levels", &answer)?;
-    let (day, night) = answer.map_or((Level::Silent, Level::Silent), |heard| {
-        (heard.day.level, heard.night.level)
-    });
-    show_level(rt, "heard day", day)?;
-    show_level(rt, " night", night)?;
+    let heard = reported(answer.ok());
+    show_level(rt, "heard day", heard.day)?;
+    show_level(rt, " night", heard.night)?;
     println!(rt)
 }
 
