@@ -1,10 +1,8 @@
 -- Laws of the contents line: its entry counts one after another, and what each way out says of it.
 -- Assumes nothing.
-use Rattle.std.proofs.Common.{◌≡◌, ℕ, suc, ◌+◌, ◌<◌, ◌≤◌, Bool, true, false, cond, eqb, leb, List, [], ◌∷◌, ◌++◌, length, ℤ, pos, negsuc, Option, None, Some, Result, Ok, Err, sym, refl, ap, ◌∙◌, append_assoc, append-nil, arith, length-append, sum, eq-eqb, ne_eqb, le-leb, w32, SFits, to_z, of_z, to_z-of_z, nat_abs, ◌^◌, unwrap_or}
+use Rattle.std.proofs.Common.{◌≡◌, ℕ, suc, ◌+◌, ◌<◌, ◌≤◌, Bool, true, false, cond, eqb, leb, List, [], ◌∷◌, ◌++◌, length, ℤ, pos, negsuc, Option, None, Some, Result, Ok, Err, sym, refl, ap, ◌∙◌, append_assoc, append-nil, arith, length-append, sum, eq-eqb, ne_eqb, le-leb, unwrap_or}
 use Rattle.std.proofs.lemmas.List.Sums.{sum_by-append, sum_by-cons, sum_by_push}
-use lib.Signed.{mag}
 use lib.ListN.{length-map}
-use Rattle.std.specs.Int.{FitsUnsignedBits}
 use borrow.Author.Tests.{lt-leb}
 use Rattle.figures.specs.declared.Refusal.{Refusal}
 use Rattle.figures.specs.declared.Refusal.TheVariants as R
@@ -111,22 +109,6 @@ module _ (l : Limits) (v : ℤ) {before : List ℕ} {total : ℕ} where
       many vs t us =
           let k = length-append vs (v ∷ us) in
           rw (le-leb 1 (length (vs ++ (v ∷ us))) (omega arith), lt-leb (length (vs ++ (v ∷ us))) l.segments (omega (arith, t.many)))
-
--- ---- a number as a count, by its bits
-
-module _ {v : ℤ} (f : SFits w32 v) where
-  pub is_count_then : FitsUnsignedBits 64 (to_z w32 (of_z w32 v)) → v ≡ pos (nat_abs (to_z w32 (of_z w32 v)))
-  is_count_then p = rw (to_z-of_z f) (go v (rw (to_z-of_z f) at p))
-    where
-      go : (u : ℤ) → FitsUnsignedBits 64 u → u ≡ pos (nat_abs u)
-      go (pos n) q = refl
-      go (negsuc n) q = absurd q
-
-  pub no_count_then : ¬ FitsUnsignedBits 64 (to_z w32 (of_z w32 v)) → (c : ℕ) → v ≡ pos c → ⊥
-  no_count_then p c e =
-      let small : mag v < 2 ^ 31 = f.sfits in
-      let fits : FitsUnsignedBits 64 (pos c) = omega (arith, rw e at small) in
-      p (rw (to_z-of_z f, e) fits)
 
 -- ---- the whole line
 

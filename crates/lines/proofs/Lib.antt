@@ -1,3 +1,4 @@
+pub mod AsCount
 pub mod Bytes
 pub mod Digits
 pub mod Values

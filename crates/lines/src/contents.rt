@@ -17,9 +17,7 @@ fn with_count<const N: usize>(
     ensures { Counted (limits N entries) value counts.old.items sum counts.new.items result }
 {
     let before = sum?;
-    let Ok(count) = usize::try_from(value) else {
-        return None;
-    };
+    let count = usize::try_from(value).ok()?;
     if counts.is_full() || entries < count || entries - count < before {
         return None;
     }
@@ -35,12 +33,8 @@ pub fn contents_of<const N: usize>(
     ensures { counts_of result ≡ contents_of (limits N entries) line.now }
 {
     let mut numbers = Numbers::new(line);
-    let Some(first) = numbers.next_number() else {
-        return Err(Refusal::Form);
-    };
-    let Ok(announced) = usize::try_from(first) else {
-        return Err(Refusal::Form);
-    };
+    let first = numbers.next_number().ok_or(Refusal::Form)?;
+    let announced = usize::try_from(first).map_err(|_| Refusal::Form)?;
     let mut counts = ArrayVec::new();
     let mut sum = Some(0);
     let mut others = 0;

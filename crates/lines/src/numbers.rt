@@ -16,7 +16,8 @@ impl<'a> Model for Numbers<'a> {
     ghost view = { λ n. values_left (option_copied n.rest) };
 }
 
-// A number above zero at the front of some words, by its digits, and the words after it.
+// A number above zero at the front of some words, by its digits, and the words after it. Read by hand, here and below, for std's `parse` takes
+// a plus sign and spare zeros, which 01 refuses, and would need the word's end first.
 #[inline(always)]
 fn above_zero(words: &[u8]) -> Option<(i32, Option<&[u8]>)>
     requires { (0 < length words.now) × (48 < slice_index words.now 0) }
@@ -79,7 +80,8 @@ impl<'a> Numbers<'a> {
         self.rest.is_none()
     }
 
-    // The next one, or none where there is none or the next word is no number: then nothing is passed.
+    // The next one, or none where there is none or the next word is no number: then nothing is passed. No `Iterator`: one that ends tells
+    // nothing, and `is_empty` tells the line's end from a word that is no number, at which this stands still.
     #[inline(always)]
     pub fn next_number(&mut self) -> Option<i32>
         ensures number { result ≡ first_number self.old }

@@ -1,29 +1,39 @@
 -- `lines::contents::contents_of` meets its contract. The loop's invariant: the numbers read so far, and those left, are all of the line's.
-use Rattle.std.proofs.Common.{◌≡◌, pos, sym, refl, ◌∙◌, ap, rules, arith, w32, to_z-of_z}
-use Rattle.lines.proofs.Entries.{is_count_then, no_count_then, first_wrong, first_below, reached_first, reached_next, ended_torn, ended_other, ended_none, ended_good}
+use Rattle.std.proofs.Common.{◌≡◌, None, sym, refl, ◌∙◌, rules, arith, w32, to_z-of_z}
+use Rattle.std.proofs.lemmas.Result.{err_from_is_err_and}
+use Rattle.figures.specs.declared.Refusal.TheVariants.{Form}
+use Rattle.lines.proofs.AsCount.{count_mapped, none_mapped}
+use Rattle.lines.proofs.Entries.{first_wrong, first_below, reached_first, reached_next, ended_torn, ended_other, ended_none, ended_good}
 use Rattle.lines.proofs.contents.contents_of.Goals as goal
 use Rattle.lines.proofs.contents.contents_of.Goals.{then-not-is_empty-via-then-not-is_empty, then-not-is_empty-via-else-not-is_empty+then-announced-others}
 
-pub returns-in_default : goal.returns-in_default
-returns-in_default g c = first_wrong _ _ c.new-numbers.ensures c.in_default.ensures.number
+pub returns-in_err-first : goal.returns-in_err-first
+returns-in_err-first g c =
+    let p = err_from_is_err_and c.from_residual.result c.from_residual.ensures.1 in
+    let none : c.next_number.result ≡ None = c.in_err-first.ensures.ok_part in
+    let form : c.in_err-first.field-0.0 ≡ Form = cc (rw none at c.in_err-first.ensures.value) in
+    rw (p.1, p.2, form) (first_wrong _ _ c.new-numbers.ensures (sym none ∙ c.next_number.ensures.number))
 
-pub returns-in_default-try_from : goal.returns-in_default-try_from
-returns-in_default-try_from g c =
-    first_below _ _ c.new-numbers.ensures c.in-Some.ensures.number c.in-Some.ensures.left (no_count_then (search rules) c.in_default-try_from.ensures)
+pub returns-in_err-announced : goal.returns-in_err-announced
+returns-in_err-announced g c =
+    let p = err_from_is_err_and c.from_residual-in_err-announced.result c.from_residual-in_err-announced.ensures.1 in
+    let t = none_mapped (search rules) c.try_from.result c.try_from.ensures (search rules) c.in_err-announced.was in
+    rw (p.1, p.2, t.0)
+    (first_below _ _ c.new-numbers.ensures (sym c.in_ok-first.ensures.ok_part ∙ c.next_number.ensures.number) c.next_number.ensures.left t.1)
 
 pub loop-value-init : goal.loop-value-init
 loop-value-init g c =
-    let count : c.in-Some.first ≡ pos c.in-Ok.announced = is_count_then (search rules) c.in-Ok.ensures.0 ∙ ap pos (sym c.in-Ok.ensures.1) in
-    reached_first _ _ c.new-numbers.ensures c.in-Some.ensures.number c.in-Some.ensures.left count c.new-counts.ensures
+    reached_first _ _ c.new-numbers.ensures (sym c.in_ok-first.ensures.ok_part ∙ c.next_number.ensures.number) c.next_number.ensures.left
+    (count_mapped (search rules) c.try_from.result c.try_from.ensures (search rules) c.in_ok-announced.was) c.new-counts.ensures
 
 pub loop-value-preserved : goal.loop-value-preserved
 loop-value-preserved g c =
-    reached_next c.loop-value.invariant c.in-Some-next_number.ensures.left c.in-Some-next_number.ensures.number
-    (rw (to_z-of_z {w = w32} {z = c.in-Some-next_number.value} (search rules)) at c.with_count-sum.ensures)
+    reached_next c.loop-value.invariant c.in-Some.ensures.left c.in-Some.ensures.number
+    (rw (to_z-of_z {w = w32} {z = c.in-Some.value} (search rules)) at c.with_count-sum.ensures)
 
 pub returns-then-not-is_empty : goal.returns-then-not-is_empty
 returns-then-not-is_empty g c =
-    let last = c.in_default-next_number.ensures in
+    let last = c.in_default.ensures in
     elim c.then-not-is_empty.branch [
       | then-not-is_empty-via-then-not-is_empty w ↦ ended_torn c.loop-value.invariant last.left last.number (λ z. let t = w.if-not-is_empty.ensures.1 z in cc)
       | then-not-is_empty-via-else-not-is_empty+then-announced-others w ↦ ended_other c.loop-value.invariant last.left last.number (w.if-not-is_empty.ensures.0 refl) w.if-announced-others.true
@@ -31,10 +41,10 @@ returns-then-not-is_empty g c =
 
 pub returns-then-unwrap_or-eq0 : goal.returns-then-unwrap_or-eq0
 returns-then-unwrap_or-eq0 g c =
-    let last = c.in_default-next_number.ensures in
+    let last = c.in_default.ensures in
     ended_none c.loop-value.invariant last.left last.number (c.if-not-is_empty.ensures.0 refl) c.if-announced-others.false (omega arith)
 
 pub returns : goal.returns
 returns g c =
-    let last = c.in_default-next_number.ensures in
+    let last = c.in_default.ensures in
     ended_good c.loop-value.invariant last.left last.number (c.if-not-is_empty.ensures.0 refl) c.if-announced-others.false (λ z. omega arith)
