@@ -1,6 +1,7 @@
 -- How many segments and entries a text has, by its first line.
 -- Assumes nothing.
-use Rattle.std.proofs.Common.{◌≡◌, ℕ, ◌≤◌, List, length, None, Result, Ok, Err, sum, sym, ap, ◌∙◌, arith}
+use Rattle.std.proofs.Common.{◌≡◌, ℕ, ◌≤◌, List, length, None, Some, Result, Ok, Err, refl, sum, sym, ap, ◌∙◌, arith}
+use Rattle.std.specs.Result.{result_ok}
 use Rattle.arrayvec.specs.ArrayVec.{ArrayVec}
 use Rattle.figures.specs.declared.Refusal.{Refusal}
 use Rattle.study.specs.Add.{ours}
@@ -14,6 +15,15 @@ use Rattle.text.proofs.Places.{torn_refused}
 use Rattle.text.proofs.Counted.{Announces, plan_announced}
 use Rattle.drawings.specs.Private.{Announced, Unannounced}
 
+-- what `ok` gives tells what it was given
+ok_is : {T E : Type 0} (r : Result T E) {x : T} → Some x ≡ result_ok r → r ≡ Ok x
+ok_is (Ok y) e = cc
+ok_is (Err f) e = cc
+
+err_is : {T E : Type 0} (r : Result T E) → None ≡ result_ok r → (f : E) × (r ≡ Err f)
+err_is (Ok y) e = cc
+err_is (Err f) e = (f, refl)
+
 -- an accepted text's is ended
 pub torn_sizes : (text : List ℕ) → past 10 text ≡ None → Unannounced text
 torn_sizes text e ok = torn_refused text e ok
@@ -26,10 +36,13 @@ module _ (text : List ℕ) {line : List ℕ} (first : line ≡ until 10 text) (r
   announced : (read_text ours text).check ≡ Ok tt → Announces (counts_of r) (length (plan_in text).segments) (length (plan_in text).entries)
   announced ok = rw contents_read (plan_announced ours text ok)
 
-  pub refused_sizes : {f : Refusal} → r ≡ Err f → Unannounced text
-  refused_sizes q ok = rw q at (announced ok)
+  pub refused_sizes : None ≡ result_ok r → Unannounced text
+  refused_sizes none ok = rw (err_is r none).1 at (announced ok)
 
-  module _ {counts : ArrayVec ℕ} (q : r ≡ Ok counts) where
+  module _ {counts : ArrayVec ℕ} (some : Some counts ≡ result_ok r) where
+    abbrev q : r ≡ Ok counts
+    q = ok_is r some
+
     counts_given : Given ours (Ok counts.items)
     unfolding contents_of
     counts_given = rw (← contents_read, q) at (contents_given ours (numbers_of (until 10 text)))

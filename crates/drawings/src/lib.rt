@@ -15,7 +15,7 @@ use lines::split_line;
 use merging::limits_check;
 use request::{MOST_CELLS, PeriodResult, is_met, write_levels};
 use study::{MOST_ENTRIES, MOST_SEGMENTS};
-use text::{Fault, TextFault, text_levels};
+use text::{TextFault, text_levels};
 
 // How many segments and entries a text has.
 #[derive(Clone, Copy)]
@@ -51,9 +51,7 @@ fn sizes_of(text: &[u8]) -> Option<Sizes>
     ensures { MatchOption result (Unannounced text.now) (λ r. Announced text.now r) }
 {
     let (line, _) = split_line(text)?;
-    let Ok(counts) = contents_of::<MOST_SEGMENTS>(line, MOST_ENTRIES) else {
-        return None;
-    };
+    let counts = contents_of::<MOST_SEGMENTS>(line, MOST_ENTRIES).ok()?;
     Some(Sizes {
         segments: counts.len(),
         entries: sum_of(counts.as_slice()),
@@ -65,7 +63,7 @@ fn sizes_of(text: &[u8]) -> Option<Sizes>
 fn marked_segments(close: u32, levels: &[i32]) -> u32
     ensures { result ≡ close - total_marks levels.now }
 {
-    // Then the total has no mark, and need not be made.
+    // For speed: then the total has no mark, and need not be made.
     if close == 0 {
         return 0;
     }
@@ -100,7 +98,8 @@ fn drawing_in<'a>(place: u32, text: &[u8], cells: &'a mut [i32]) -> Result<Drawi
     })
 }
 
-// A period of both texts: its levels in the cells from a place on, the first text's before the second's, and its result.
+// A period of both texts: its levels in the cells from a place on, the first text's before the second's, and its result. Not by request's
+// `period_of`, which counts the close segments of entries: here they are counted already, of each text.
 fn period_in(
     period: Period,
     one: Part<'_>,
@@ -163,8 +162,5 @@ pub fn merged_levels(
     let one = drawing_in(1, first, &mut own)?;
     let mut others = [0i32; MOST_CELLS];
     let two = drawing_in(2, second, &mut others)?;
-    together(&one, &two, cells).map_err(|refusal| TextFault {
-        text: 0,
-        fault: Fault { refusal, line: 0 },
-    })
+    together(&one, &two, cells).map_err(TextFault::from)
 }
