@@ -15,20 +15,21 @@ pub struct LevelValue {
     pub tenths: i32,
 }
 
-// A level's value for a struct of C.
-#[tactic(auto, unfolding(crate::specs::Values::level_value))]
-pub fn level_value(level: Level) -> LevelValue
-    ensures { result ≡ level_value level }
-{
-    match level {
-        Level::Silent => LevelValue {
-            silent: true,
-            tenths: 0,
-        },
-        Level::Figure(tenths) => LevelValue {
-            silent: false,
-            tenths,
-        },
+impl From<Level> for LevelValue {
+    ghost from_gives = { λ level value. value ≡ level_value level };
+
+    #[tactic(auto, unfolding(crate::specs::Values::level_value))]
+    fn from(level: Level) -> Self {
+        match level {
+            Level::Silent => LevelValue {
+                silent: true,
+                tenths: 0,
+            },
+            Level::Figure(tenths) => LevelValue {
+                silent: false,
+                tenths,
+            },
+        }
     }
 }
 
@@ -49,17 +50,18 @@ pub struct RailnoisePeriod {
     pub met: bool,
 }
 
-// A period's result for a struct of C.
-#[tactic(auto, unfolding(crate::specs::Values::level_value, crate::specs::Values::exported_period), using(decibel::proofs::Words::back))]
-pub fn period_value(res: PeriodResult) -> RailnoisePeriod
-    ensures { result ≡ exported_period res }
-{
-    let value = level_value(res.level);
-    RailnoisePeriod {
-        silent: value.silent,
-        level: value.tenths,
-        close: res.close,
-        met: res.met,
+impl From<PeriodResult> for RailnoisePeriod {
+    ghost from_gives = { λ res period. period ≡ exported_period res };
+
+    #[tactic(auto, unfolding(crate::specs::Values::level_value, crate::specs::Values::exported_period), using(decibel::proofs::Words::back))]
+    fn from(res: PeriodResult) -> Self {
+        let value = LevelValue::from(res.level);
+        RailnoisePeriod {
+            silent: value.silent,
+            level: value.tenths,
+            close: res.close,
+            met: res.met,
+        }
     }
 }
 

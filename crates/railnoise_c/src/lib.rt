@@ -4,7 +4,7 @@
 ghost use Rattle.std.specs.Prelude.{◌≡◌};
 ghost use Rattle.railnoise_c.specs.Exported.{exported, Called};
 
-use c_values::{RailnoisePeriod, line_value, period_value};
+use c_values::{RailnoisePeriod, line_value};
 use figures::Periods;
 use request::PeriodResult;
 use text::Fault;
@@ -19,23 +19,25 @@ pub struct RailnoiseAnswer {
     pub night: RailnoisePeriod,
 }
 
-#[tactic(auto, unfolding(crate::specs::Exported::exported))]
-fn answer_of(answer: Result<Periods<PeriodResult>, Fault>) -> RailnoiseAnswer
-    ensures { result ≡ exported answer }
-{
-    match answer {
-        Ok(results) => RailnoiseAnswer {
-            refusal: 0,
-            line: 0,
-            day: period_value(results.day),
-            night: period_value(results.night),
-        },
-        Err(fault) => RailnoiseAnswer {
-            refusal: u32::from(fault.refusal),
-            line: line_value(fault.line),
-            day: RailnoisePeriod::silent(),
-            night: RailnoisePeriod::silent(),
-        },
+impl From<Result<Periods<PeriodResult>, Fault>> for RailnoiseAnswer {
+    ghost from_gives = { λ told answer. answer ≡ exported told };
+
+    #[tactic(auto, unfolding(crate::specs::Exported::exported))]
+    fn from(told: Result<Periods<PeriodResult>, Fault>) -> Self {
+        match told {
+            Ok(results) => RailnoiseAnswer {
+                refusal: 0,
+                line: 0,
+                day: results.day.into(),
+                night: results.night.into(),
+            },
+            Err(fault) => RailnoiseAnswer {
+                refusal: u32::from(fault.refusal),
+                line: line_value(fault.line),
+                day: RailnoisePeriod::silent(),
+                night: RailnoisePeriod::silent(),
+            },
+        }
     }
 }
 
@@ -44,5 +46,5 @@ fn answer_of(answer: Result<Periods<PeriodResult>, Fault>) -> RailnoiseAnswer
 pub extern "C" fn railnoise_levels(text: &[u8], cells: &mut [i32]) -> RailnoiseAnswer
     ensures { Called text.now cells.old cells.new result }
 {
-    answer_of(text::text_levels(text, cells))
+    text::text_levels(text, cells).into()
 }

@@ -14,8 +14,8 @@ use Rattle.entitlement.specs.Private.{LayoutFew}
 use Rattle.entitlement.proofs.Answers.{given_answer}
 use Rattle.text.specs.declared.TextFault.{TextFault}
 use Rattle.railnoise_requests_c.specs.declared.RailnoiseEntitlementAnswer.{RailnoiseEntitlementAnswer}
-use Rattle.railnoise_requests_c.specs.Entitlement.{exported_entitlement, Source, source_check, read_at, layout_of, entitlement_in}
-use Rattle.railnoise_requests_c.specs.Private.{source_of, TextGives, Refused, exported_told}
+use Rattle.railnoise_requests_c.specs.Entitlement.{exported_entitlement, exported_told, Source, source_check, read_at, layout_of, entitlement_in}
+use Rattle.railnoise_requests_c.specs.Private.{source_of, TextGives, Refused}
 use Rattle.railnoise_requests_c.proofs.Texts.{lines_few, accepted-kept}
 use Rattle.std.specs.Prelude.{List, Option, None, Some, Result, Ok, Err}
 

@@ -5,6 +5,7 @@ use Rattle.energy.specs.declared.Total.{Total}
 use Rattle.figures.specs.declared.Refusal.{Refusal}
 use Rattle.figures.specs.Refusal.{check_number, check_of, Check}
 use Rattle.study.specs.Add.{ours}
+use Rattle.text.specs.declared.TextFault.{TextFault}
 use Rattle.text.specs.Text.{read_text}
 use Rattle.c_values.specs.Values.{is_silent, tenths_of, line_value}
 use Rattle.entitlement.specs.declared.Layout.{Layout}
@@ -29,6 +30,11 @@ unfoldable pub exported_entitlement : Result Entitlement Refusal → ℕ → ℕ
 exported_entitlement answer text line =
     let e = shown answer in
     record { refusal = check_number (check_of answer); text = text; line = line_value line; day = exported_entitlement_period e.day; night = exported_entitlement_period e.night; entitled = e.entitled }
+
+-- the same of what the program tells: of the texts' studies, or of the text that is refused
+unfoldable pub exported_told : Result Entitlement TextFault → RailnoiseEntitlementAnswer
+exported_told (Ok e) = exported_entitlement (Ok e) 0 0
+exported_told (Err f) = exported_entitlement (Err f.fault.refusal) f.text f.fault.line
 
 -- ---- four texts
 

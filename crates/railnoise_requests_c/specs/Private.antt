@@ -1,15 +1,13 @@
--- What contracts of this crate's private functions cite: what one text gives, and how the answer to all four is handed over.
+-- What contracts of this crate's private functions cite: what one text gives.
 -- Assumes nothing.
-use Rattle.std.specs.Prelude.{◌≡◌, true, false, cond, List, [], ℕ, Option, None, Some, Result, Ok, Err}
+use Rattle.std.specs.Prelude.{◌≡◌, true, false, cond, List, [], ℕ, Option, None, Some, Ok}
 use Rattle.decibel.specs.declared.Level.{Level}
 use Rattle.figures.specs.declared.Period.TheVariants.{Day, Night}
 use Rattle.figures.specs.declared.Periods.{Periods}
 use Rattle.text.specs.declared.TextFault.{TextFault}
 use Rattle.text.specs.Private.{TextRefused}
-use Rattle.entitlement.specs.declared.Entitlement.{Entitlement}
 use Rattle.entitlement.specs.Entitlement.{reported_in}
-use Rattle.railnoise_requests_c.specs.declared.RailnoiseEntitlementAnswer.{RailnoiseEntitlementAnswer}
-use Rattle.railnoise_requests_c.specs.Entitlement.{Source, source, source_check, given_lines, exported_entitlement}
+use Rattle.railnoise_requests_c.specs.Entitlement.{Source, source, source_check, given_lines}
 
 -- a text that is looked at, none where it is marked as empty; and such a text as C would hand it over
 abbrev pub looked_at : Source → Option (List ℕ)
@@ -29,8 +27,3 @@ pub record TextGives (s : Source) (r : Periods Level) : Type 0 where
 abbrev pub Refused : ℕ → Option (List ℕ) → TextFault → Type 0
 Refused place None f = ⊥
 Refused place (Some text) f = TextRefused place text f
-
--- the answer for C: of the texts' studies, or of the text that is refused
-unfoldable pub exported_told : Result Entitlement TextFault → RailnoiseEntitlementAnswer
-exported_told (Ok e) = exported_entitlement (Ok e) 0 0
-exported_told (Err f) = exported_entitlement (Err f.fault.refusal) f.text f.fault.line

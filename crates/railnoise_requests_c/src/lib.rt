@@ -2,12 +2,12 @@
 #![tactic(auto)]
 
 ghost use Rattle.std.specs.Prelude.{◌≡◌, MatchResult, option_copied};
-ghost use Rattle.railnoise_requests_c.specs.Entitlement.{exported_combined, exported_entitlement_period, exported_entitlement, source, entitlement_in, EntitlementCalled};
+ghost use Rattle.railnoise_requests_c.specs.Entitlement.{exported_combined, exported_entitlement_period, exported_entitlement, exported_told, source, entitlement_in, EntitlementCalled};
 ghost use Rattle.railnoise_requests_c.specs.Merged.{exported_merged, MergedCalled};
 ghost use Rattle.railnoise_requests_c.specs.Speed.{period_by, exported_speed, SpeedCalled};
-ghost use Rattle.railnoise_requests_c.specs.Private.{source_of, looked_at, TextGives, Refused, exported_told};
+ghost use Rattle.railnoise_requests_c.specs.Private.{source_of, looked_at, TextGives, Refused};
 
-use c_values::{RailnoisePeriod, level_value, line_value, period_value};
+use c_values::{LevelValue, RailnoisePeriod, line_value};
 use decibel::Level;
 use drawings::merged_levels;
 use energy::Total;
@@ -70,55 +70,61 @@ pub struct RailnoiseSpeedAnswer {
     pub speed: u32,
 }
 
-#[tactic(auto, unfolding(c_values::specs::Values::level_value), using(decibel::proofs::Words::back))]
-fn combined_of(total: Total) -> RailnoiseCombined
-    ensures { result ≡ exported_combined total }
-{
-    let value = level_value(total.level);
-    RailnoiseCombined {
-        silent: value.silent,
-        level: value.tenths,
-        close: total.close,
+impl From<Total> for RailnoiseCombined {
+    ghost from_gives = { λ total combined. combined ≡ exported_combined total };
+
+    #[tactic(auto, unfolding(c_values::specs::Values::level_value), using(decibel::proofs::Words::back))]
+    fn from(total: Total) -> Self {
+        let value = LevelValue::from(total.level);
+        RailnoiseCombined {
+            silent: value.silent,
+            level: value.tenths,
+            close: total.close,
+        }
     }
 }
 
-#[tactic(auto, unfolding(crate::specs::Entitlement::exported_entitlement_period))]
-fn period_of(period: PeriodEntitlement) -> RailnoiseEntitlementPeriod
-    ensures { result ≡ exported_entitlement_period period }
-{
-    RailnoiseEntitlementPeriod {
-        prevailing: combined_of(period.prevailing),
-        relevant: combined_of(period.relevant),
-        reaches: period.reaches,
-        rises: period.rises,
-        contributes: period.contributes,
-        entitled: period.entitled,
+impl From<PeriodEntitlement> for RailnoiseEntitlementPeriod {
+    ghost from_gives = { λ shown period. period ≡ exported_entitlement_period shown };
+
+    #[tactic(auto, unfolding(crate::specs::Entitlement::exported_entitlement_period))]
+    fn from(shown: PeriodEntitlement) -> Self {
+        RailnoiseEntitlementPeriod {
+            prevailing: shown.prevailing.into(),
+            relevant: shown.relevant.into(),
+            reaches: shown.reaches,
+            rises: shown.rises,
+            contributes: shown.contributes,
+            entitled: shown.entitled,
+        }
     }
 }
 
 // The conditions, or the number of the refusal with its text and line, and no condition.
-#[tactic(auto, unfolding(crate::specs::Private::exported_told, crate::specs::Entitlement::exported_entitlement, figures::specs::Refusal::check_of, figures::specs::Refusal::check_number))]
-fn answer_of(answer: Result<Entitlement, TextFault>) -> RailnoiseEntitlementAnswer
-    ensures { result ≡ exported_told answer }
-{
-    match answer {
-        Ok(shown) => RailnoiseEntitlementAnswer {
-            refusal: 0,
-            text: 0,
-            line: 0,
-            day: period_of(shown.day),
-            night: period_of(shown.night),
-            entitled: shown.entitled,
-        },
-        Err(TextFault { text, fault }) => {
-            let shown = Entitlement::silent();
-            RailnoiseEntitlementAnswer {
-                refusal: u32::from(fault.refusal),
-                text,
-                line: line_value(fault.line),
-                day: period_of(shown.day),
-                night: period_of(shown.night),
+impl From<Result<Entitlement, TextFault>> for RailnoiseEntitlementAnswer {
+    ghost from_gives = { λ told answer. answer ≡ exported_told told };
+
+    #[tactic(auto, unfolding(crate::specs::Entitlement::exported_told, crate::specs::Entitlement::exported_entitlement, figures::specs::Refusal::check_of, figures::specs::Refusal::check_number))]
+    fn from(told: Result<Entitlement, TextFault>) -> Self {
+        match told {
+            Ok(shown) => RailnoiseEntitlementAnswer {
+                refusal: 0,
+                text: 0,
+                line: 0,
+                day: shown.day.into(),
+                night: shown.night.into(),
                 entitled: shown.entitled,
+            },
+            Err(TextFault { text, fault }) => {
+                let shown = Entitlement::silent();
+                RailnoiseEntitlementAnswer {
+                    refusal: u32::from(fault.refusal),
+                    text,
+                    line: line_value(fault.line),
+                    day: shown.day.into(),
+                    night: shown.night.into(),
+                    entitled: shown.entitled,
+                }
             }
         }
     }
@@ -193,7 +199,7 @@ pub extern "C" fn railnoise_entitlement(
 ) -> RailnoiseEntitlementAnswer
     ensures { EntitlementCalled (source altered_before_empty altered_before.now) (source altered_after_empty altered_after.now) (source other_before_empty other_before.now) (source other_after_empty other_after.now) result }
 {
-    answer_of(entitled(
+    RailnoiseEntitlementAnswer::from(entitled(
         looked_at(altered_before, altered_before_empty),
         looked_at(altered_after, altered_after_empty),
         looked_at(other_before, other_before_empty),
@@ -201,25 +207,27 @@ pub extern "C" fn railnoise_entitlement(
     ))
 }
 
-#[tactic(auto, unfolding(crate::specs::Merged::exported_merged))]
-fn merged_answer_of(answer: Result<Periods<PeriodResult>, TextFault>) -> RailnoiseMergedAnswer
-    ensures { result ≡ exported_merged answer }
-{
-    match answer {
-        Ok(results) => RailnoiseMergedAnswer {
-            refusal: 0,
-            text: 0,
-            line: 0,
-            day: period_value(results.day),
-            night: period_value(results.night),
-        },
-        Err(TextFault { text, fault }) => RailnoiseMergedAnswer {
-            refusal: u32::from(fault.refusal),
-            line: line_value(fault.line),
-            text,
-            day: RailnoisePeriod::silent(),
-            night: RailnoisePeriod::silent(),
-        },
+impl From<Result<Periods<PeriodResult>, TextFault>> for RailnoiseMergedAnswer {
+    ghost from_gives = { λ told answer. answer ≡ exported_merged told };
+
+    #[tactic(auto, unfolding(crate::specs::Merged::exported_merged))]
+    fn from(told: Result<Periods<PeriodResult>, TextFault>) -> Self {
+        match told {
+            Ok(results) => RailnoiseMergedAnswer {
+                refusal: 0,
+                text: 0,
+                line: 0,
+                day: results.day.into(),
+                night: results.night.into(),
+            },
+            Err(TextFault { text, fault }) => RailnoiseMergedAnswer {
+                refusal: u32::from(fault.refusal),
+                line: line_value(fault.line),
+                day: RailnoisePeriod::silent(),
+                night: RailnoisePeriod::silent(),
+                text,
+            },
+        }
     }
 }
 
@@ -232,7 +240,7 @@ pub extern "C" fn railnoise_merged_levels(
 ) -> RailnoiseMergedAnswer
     ensures { MergedCalled first.now second.now cells.old cells.new result }
 {
-    merged_answer_of(merged_levels(first, second, cells))
+    merged_levels(first, second, cells).into()
 }
 
 // The period that C asks for.
@@ -243,21 +251,23 @@ fn period_by(night: bool) -> Period
     if night { Period::Night } else { Period::Day }
 }
 
-#[tactic(auto, unfolding(crate::specs::Speed::exported_speed, text::specs::Answer::check_at, text::specs::Answer::line_at, speeds::specs::Speeds::speed_of, figures::specs::Refusal::check_number))]
-fn speed_answer_of(answer: Result<u32, Fault>) -> RailnoiseSpeedAnswer
-    ensures { result ≡ exported_speed answer }
-{
-    match answer {
-        Ok(speed) => RailnoiseSpeedAnswer {
-            refusal: 0,
-            line: 0,
-            speed,
-        },
-        Err(fault) => RailnoiseSpeedAnswer {
-            refusal: u32::from(fault.refusal),
-            line: line_value(fault.line),
-            speed: 0,
-        },
+impl From<Result<u32, Fault>> for RailnoiseSpeedAnswer {
+    ghost from_gives = { λ told answer. answer ≡ exported_speed told };
+
+    #[tactic(auto, unfolding(crate::specs::Speed::exported_speed, text::specs::Answer::check_at, text::specs::Answer::line_at, speeds::specs::Speeds::speed_of, figures::specs::Refusal::check_number))]
+    fn from(told: Result<u32, Fault>) -> Self {
+        match told {
+            Ok(speed) => RailnoiseSpeedAnswer {
+                refusal: 0,
+                line: 0,
+                speed,
+            },
+            Err(fault) => RailnoiseSpeedAnswer {
+                refusal: u32::from(fault.refusal),
+                line: line_value(fault.line),
+                speed: 0,
+            },
+        }
     }
 }
 
@@ -272,5 +282,5 @@ pub extern "C" fn railnoise_highest_speed(
     ensures { SpeedCalled text.now entry night limit result }
 {
     let period = period_by(night);
-    speed_answer_of(text_speed(text, entry as usize, period, limit))
+    text_speed(text, entry as usize, period, limit).into()
 }
