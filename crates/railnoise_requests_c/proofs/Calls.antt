@@ -15,7 +15,7 @@ use Rattle.entitlement.proofs.Answers.{given_answer}
 use Rattle.text.specs.declared.TextFault.{TextFault}
 use Rattle.railnoise_requests_c.specs.declared.RailnoiseEntitlementAnswer.{RailnoiseEntitlementAnswer}
 use Rattle.railnoise_requests_c.specs.Entitlement.{exported_entitlement, exported_told, Source, source_check, read_at, layout_of, entitlement_in}
-use Rattle.railnoise_requests_c.specs.Private.{source_of, TextGives, Refused}
+use Rattle.railnoise_requests_c.specs.Private.{source_of, TextGives, SourceRefused}
 use Rattle.railnoise_requests_c.proofs.Texts.{lines_few, accepted-kept}
 use Rattle.std.specs.Prelude.{List, Option, None, Some, Result, Ok, Err}
 
@@ -27,7 +27,7 @@ unfolding read_at
 read_on place s rest ok = rw ok
 
 -- one that is refused ends it
-read_stop : (place : ℕ) (text : Option (List ℕ)) (rest : RailnoiseEntitlementAnswer) (f : TextFault) → Refused place text f → exported_told (Err f) ≡ read_at place (source_of text) rest
+read_stop : (place : ℕ) (text : Option (List ℕ)) (rest : RailnoiseEntitlementAnswer) (f : TextFault) → SourceRefused place text f → exported_told (Err f) ≡ read_at place (source_of text) rest
 unfolding read_at source_check exported_told
 read_stop place None rest f x = absurd x
 read_stop place (Some text) rest f x = rw (x.check, x.told, x.line)
@@ -65,7 +65,7 @@ module _ (first second third fourth : Option (List ℕ)) where
   abbrev answer : RailnoiseEntitlementAnswer
   answer = exported_entitlement (entitlement_of (layout_of a c) (layout_of b d)) 0 0
 
-  pub refused_first : (f : TextFault) → Refused 1 first f → exported_told (Err f) ≡ entitlement_in a b c d
+  pub refused_first : (f : TextFault) → SourceRefused 1 first f → exported_told (Err f) ≡ entitlement_in a b c d
   unfolding entitlement_in
   refused_first f q = read_stop 1 first _ f q
 
@@ -74,21 +74,21 @@ module _ (first second third fourth : Option (List ℕ)) where
     unfolding entitlement_in
     after_first = sym (read_on 1 a _ x.accepted)
 
-    pub refused_second : (f : TextFault) → Refused 2 second f → exported_told (Err f) ≡ entitlement_in a b c d
+    pub refused_second : (f : TextFault) → SourceRefused 2 second f → exported_told (Err f) ≡ entitlement_in a b c d
     refused_second f q = read_stop 2 second _ f q ∙ after_first
 
     module _ {t : Periods Level} (y : TextGives b t) where
       after_second : read_at 3 c (read_at 4 d answer) ≡ entitlement_in a b c d
       after_second = sym (read_on 2 b _ y.accepted) ∙ after_first
 
-      pub refused_third : (f : TextFault) → Refused 3 third f → exported_told (Err f) ≡ entitlement_in a b c d
+      pub refused_third : (f : TextFault) → SourceRefused 3 third f → exported_told (Err f) ≡ entitlement_in a b c d
       refused_third f q = read_stop 3 third _ f q ∙ after_second
 
       module _ {u : Periods Level} (z : TextGives c u) where
         after_third : read_at 4 d answer ≡ entitlement_in a b c d
         after_third = sym (read_on 3 c _ z.accepted) ∙ after_second
 
-        pub refused_fourth : (f : TextFault) → Refused 4 fourth f → exported_told (Err f) ≡ entitlement_in a b c d
+        pub refused_fourth : (f : TextFault) → SourceRefused 4 fourth f → exported_told (Err f) ≡ entitlement_in a b c d
         refused_fourth f q = read_stop 4 fourth _ f q ∙ after_third
 
         module _ {v : Periods Level} (w : TextGives d v) where

@@ -24,6 +24,6 @@ pub record TextGives (s : Source) (r : Periods Level) : Type 0 where
   pub night : r.night ≡ reported_in Night (given_lines s)
 
 -- another its refusal; where none is looked at, none is refused
-abbrev pub Refused : ℕ → Option (List ℕ) → TextFault → Type 0
-Refused place None f = ⊥
-Refused place (Some text) f = TextRefused place text f
+abbrev pub SourceRefused : ℕ → Option (List ℕ) → TextFault → Type 0
+SourceRefused place None f = ⊥
+SourceRefused place (Some text) f = TextRefused place text f

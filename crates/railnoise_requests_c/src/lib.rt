@@ -5,7 +5,7 @@ ghost use Rattle.std.specs.Prelude.{◌≡◌, MatchResult, option_copied};
 ghost use Rattle.railnoise_requests_c.specs.Entitlement.{exported_combined, exported_entitlement_period, exported_entitlement, exported_told, source, entitlement_in, EntitlementCalled};
 ghost use Rattle.railnoise_requests_c.specs.Merged.{exported_merged, MergedCalled};
 ghost use Rattle.railnoise_requests_c.specs.Speed.{period_by, exported_speed, SpeedCalled};
-ghost use Rattle.railnoise_requests_c.specs.Private.{source_of, looked_at, TextGives, Refused};
+ghost use Rattle.railnoise_requests_c.specs.Private.{source_of, looked_at, TextGives, SourceRefused};
 
 use c_values::{LevelValue, RailnoisePeriod, line_value};
 use decibel::Level;
@@ -139,7 +139,7 @@ fn looked_at(text: &[u8], empty: bool) -> Option<&[u8]>
 
 // The levels that a text's study reports, its place among the four counted from 1. Where there is none they are silent.
 fn report_of(place: u32, text: Option<&[u8]>) -> Result<Periods<Level>, TextFault>
-    ensures { MatchResult result (λ r. TextGives (source_of (option_copied text.entry)) r) (λ f. Refused place (option_copied text.entry) f) }
+    ensures { MatchResult result (λ r. TextGives (source_of (option_copied text.entry)) r) (λ f. SourceRefused place (option_copied text.entry) f) }
 {
     let Some(text) = text else {
         return Ok(reported(None));
