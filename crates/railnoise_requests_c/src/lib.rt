@@ -162,27 +162,18 @@ fn entitled(
     let second = report_of(2, altered_after)?;
     let third = report_of(3, other_before)?;
     let fourth = report_of(4, other_after)?;
-    let day = Change {
+    // A period's levels before the works and after them.
+    let change = |period: Period| Change {
         before: Levels {
-            altered: first.day,
-            other: third.day,
+            altered: first.of(period),
+            other: third.of(period),
         },
         after: Levels {
-            altered: second.day,
-            other: fourth.day,
+            altered: second.of(period),
+            other: fourth.of(period),
         },
     };
-    let night = Change {
-        before: Levels {
-            altered: first.night,
-            other: third.night,
-        },
-        after: Levels {
-            altered: second.night,
-            other: fourth.night,
-        },
-    };
-    Ok(entitlement_by(day, night))
+    Ok(entitlement_by(change(Period::Day), change(Period::Night)))
 }
 
 // Whether a house is entitled, from the texts of the altered lines before and after the works and of the other lines before and after.

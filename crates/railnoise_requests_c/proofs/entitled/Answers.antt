@@ -1,5 +1,7 @@
 -- `railnoise_requests_c::entitled` meets its contract.
+use Rattle.std.proofs.Common.{rules}
 use Rattle.std.proofs.lemmas.Result.{err_from_is_err_and}
+use Rattle.figures.specs.Periods.{in_period}
 use Rattle.railnoise_requests_c.proofs.Calls.{refused_first, refused_second, refused_third, refused_fourth, all_given}
 use Rattle.railnoise_requests_c.proofs.entitled.Goals as goal
 
@@ -24,4 +26,5 @@ returns-in_err-fourth c =
     rw p.1 (refused_fourth _ _ _ _ c.in_ok-first.ensures c.in_ok-second.ensures c.in_ok-third.ensures _ (rw p.2 c.in_err-fourth.ensures))
 
 pub returns : goal.returns
-returns c = all_given _ _ _ _ c.in_ok-first.ensures c.in_ok-second.ensures c.in_ok-third.ensures c.in_ok-fourth.ensures c.entitlement_by.ensures
+unfolding in_period
+returns c = all_given _ _ _ _ c.in_ok-first.ensures c.in_ok-second.ensures c.in_ok-third.ensures c.in_ok-fourth.ensures (search rules)
