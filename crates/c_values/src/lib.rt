@@ -40,7 +40,7 @@ pub fn line_value(line: usize) -> u32
     u32::try_from(line).unwrap_or(u32::MAX)
 }
 
-// `railnoise_period`, with a flag and numbers for C: the level in tenths, 0 when silent.
+// C's `railnoise_period`, with a flag and numbers in place of an enum: the level in tenths, 0 when silent.
 #[repr(C)]
 #[derive(Clone, Copy)]
 pub struct RailnoisePeriod {

@@ -9,7 +9,7 @@ use figures::Periods;
 use request::PeriodResult;
 use text::Fault;
 
-// `railnoise_answer`, with numbers for C: refusal 0 when answered; line 0 where none is at fault.
+// C's `railnoise_answer`, with numbers in place of a `Result`: refusal 0 when answered; line 0 where none is at fault.
 #[repr(C)]
 #[derive(Clone, Copy)]
 pub struct RailnoiseAnswer {

@@ -17,7 +17,7 @@ use request::{MOST_CELLS, PeriodResult};
 use text::{Fault, TextFault, text_levels};
 use text_speeds::text_speed;
 
-// The structs of this file are C's, with flags and numbers. `railnoise_combined`: the level in tenths, 0 when silent.
+// The structs of this file are C's, with flags and numbers in place of enums. C's `railnoise_combined`: the level in tenths, 0 when silent.
 #[repr(C)]
 #[derive(Clone, Copy)]
 pub struct RailnoiseCombined {
@@ -26,7 +26,7 @@ pub struct RailnoiseCombined {
     pub close: bool,
 }
 
-// `railnoise_entitlement_period`.
+// C's `railnoise_entitlement_period`.
 #[repr(C)]
 #[derive(Clone, Copy)]
 pub struct RailnoiseEntitlementPeriod {
@@ -38,7 +38,7 @@ pub struct RailnoiseEntitlementPeriod {
     pub entitled: bool,
 }
 
-// `railnoise_entitlement_answer`: refusal, text and line 0 when answered; line 0 where none is at fault.
+// C's `railnoise_entitlement_answer`: refusal, text and line 0 when answered; line 0 where none is at fault.
 #[repr(C)]
 #[derive(Clone, Copy)]
 pub struct RailnoiseEntitlementAnswer {
@@ -50,7 +50,7 @@ pub struct RailnoiseEntitlementAnswer {
     pub entitled: bool,
 }
 
-// `railnoise_merged_answer`: refusal, text and line 0 when answered; text and line 0 where no text is at fault.
+// C's `railnoise_merged_answer`: refusal, text and line 0 when answered; text and line 0 where no text is at fault.
 #[repr(C)]
 #[derive(Clone, Copy)]
 pub struct RailnoiseMergedAnswer {
@@ -61,7 +61,7 @@ pub struct RailnoiseMergedAnswer {
     pub night: RailnoisePeriod,
 }
 
-// `railnoise_speed_answer`: refusal 0 when answered; line 0 where none is at fault, speed 0 on a refusal.
+// C's `railnoise_speed_answer`: refusal 0 when answered; line 0 where none is at fault, speed 0 on a refusal.
 #[repr(C)]
 #[derive(Clone, Copy)]
 pub struct RailnoiseSpeedAnswer {
@@ -198,6 +198,7 @@ pub extern "C" fn railnoise_entitlement(
     ))
 }
 
+// Like the conversion of railnoise_c and not one with it: C's structs differ, and this one has the text's number.
 impl From<Result<Periods<PeriodResult>, TextFault>> for RailnoiseMergedAnswer {
     ghost from_gives = { λ told answer. answer ≡ exported_merged told };
 
@@ -273,5 +274,6 @@ pub extern "C" fn railnoise_highest_speed(
     ensures { SpeedCalled text.now entry night limit result }
 {
     let period = period_by(night);
+    // `as`, since std has no `From` of `u32` for `usize`.
     text_speed(text, entry as usize, period, limit).into()
 }
