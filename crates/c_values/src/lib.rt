@@ -51,16 +51,16 @@ pub struct RailnoisePeriod {
 }
 
 impl From<PeriodResult> for RailnoisePeriod {
-    ghost from_gives = { λ res period. period ≡ exported_period res };
+    ghost from_gives = { λ period value. value ≡ exported_period period };
 
     #[tactic(auto, unfolding(crate::specs::Values::level_value, crate::specs::Values::exported_period), using(decibel::proofs::Words::back))]
-    fn from(res: PeriodResult) -> Self {
-        let value = LevelValue::from(res.level);
+    fn from(period: PeriodResult) -> Self {
+        let level = LevelValue::from(period.level);
         RailnoisePeriod {
-            silent: value.silent,
-            level: value.tenths,
-            close: res.close,
-            met: res.met,
+            silent: level.silent,
+            level: level.tenths,
+            close: period.close,
+            met: period.met,
         }
     }
 }

@@ -75,10 +75,10 @@ impl From<Total> for RailnoiseCombined {
 
     #[tactic(auto, unfolding(c_values::specs::Values::level_value), using(decibel::proofs::Words::back))]
     fn from(total: Total) -> Self {
-        let value = LevelValue::from(total.level);
+        let level = LevelValue::from(total.level);
         RailnoiseCombined {
-            silent: value.silent,
-            level: value.tenths,
+            silent: level.silent,
+            level: level.tenths,
             close: total.close,
         }
     }
