@@ -26,7 +26,7 @@ use Rattle.request.specs.Levels.{own_marks}
 use Rattle.request.specs.Request.{Answer, AnsweredBy}
 use Rattle.writing.specs.Bytes.{ascii, fitting, digits_of, figure_of}
 use Rattle.writing.proofs.Digits.{digits_length, decimal_is}
-use Rattle.writing.proofs.Joining.{all_fit}
+use Rattle.writing.proofs.Concatenation.{all_fit}
 use Rattle.text.specs.Answer.{plan_in}
 use Rattle.report.specs.Bytes.{level}
 use Rattle.report.specs.Report.{cells_lent, report_of}

@@ -17,7 +17,7 @@ use report::{Decibels, Outcome, REPORT_BYTES};
 use request::MOST_CELLS;
 use std::fmt;
 use study::{MOST_ENTRIES, MOST_SEGMENTS, Study};
-use writing::{Tenths, joined};
+use writing::{Tenths, concatenated};
 
 // The least level that a working cell can hold, in tenths: any below it is silent.
 const LEAST_LEVEL: i32 = -2000;
@@ -99,7 +99,7 @@ fn segment_line(number: usize, segment: Segment) -> ArrayString<LINE>
     let ballast = Tenths(parts.ballast).text();
     let facade = Tenths(parts.facade).text();
     let opposite = Tenths(parts.opposite).text();
-    joined(&[
+    concatenated(&[
         "segment ",
         digits.format(number),
         " distance ",
@@ -149,7 +149,7 @@ impl EntryLine {
         let (by_day, by_night) = (by_day.text(), by_night.text());
         let day = Decibels(level_of(self.day)).text();
         let night = Decibels(level_of(self.night)).text();
-        joined(&[
+        concatenated(&[
             "train ",
             number.format(self.number),
             " segment ",
@@ -220,7 +220,7 @@ impl StudyBreakdown<'_> {
     {
         let segments = segment_lines(self.study);
         let entries = entry_lines(self.study, &self.cells);
-        joined(&[segments.as_str(), entries.as_str()])
+        concatenated(&[segments.as_str(), entries.as_str()])
     }
 }
 
@@ -256,7 +256,7 @@ impl TextBreakdown {
     {
         let lines = study_breakdown(&self.study).text();
         let report = self.outcome.text();
-        joined(&[lines.as_str(), report.as_str()])
+        concatenated(&[lines.as_str(), report.as_str()])
     }
 }
 

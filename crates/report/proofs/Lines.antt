@@ -18,7 +18,7 @@ use Rattle.figures.specs.declared.Refusal.{Refusal}
 use Rattle.request.specs.declared.PeriodResult.{PeriodResult}
 use Rattle.writing.specs.Bytes.{ascii, fitting, digits_of, figure_of}
 use Rattle.writing.proofs.Digits.{digits_length, decimal_is}
-use Rattle.writing.proofs.Joining.{all_fit, fits_as}
+use Rattle.writing.proofs.Concatenation.{all_fit, fits_as}
 use Rattle.writing.proofs.Lengths.{figure_length}
 use Rattle.text.specs.declared.Fault.{Fault}
 use Rattle.words.specs.Words.{refused_of}

@@ -14,7 +14,7 @@ use request::{MOST_CELLS, PeriodResult};
 use std::fmt;
 use text::Fault;
 use words::Refused;
-use writing::{Tenths, joined};
+use writing::{Tenths, concatenated};
 
 // No report has more bytes than this.
 pub const REPORT_BYTES: usize = 96;
@@ -29,7 +29,7 @@ impl Decibels {
         ensures { result.bytes ≡ level self.0 }
     {
         match self.0 {
-            Level::Silent => joined(&["silent"]),
+            Level::Silent => concatenated(&["silent"]),
             Level::Figure(tenths) => Tenths(tenths).text(),
         }
     }
@@ -56,7 +56,7 @@ fn result_text(period: PeriodResult) -> ArrayString<27>
 {
     let level = Decibels(period.level).text();
     let mut close = Buffer::new();
-    joined(&[
+    concatenated(&[
         level.as_str(),
         " ",
         close.format(period.close),
@@ -78,7 +78,7 @@ impl Outcome {
             Ok(results) => {
                 let day = result_text(results.day);
                 let night = result_text(results.night);
-                joined(&[
+                concatenated(&[
                     "period level close met\nday ",
                     day.as_str(),
                     "\nnight ",
@@ -88,7 +88,7 @@ impl Outcome {
             }
             Err(fault) => {
                 let refused = Refused(fault).text();
-                joined(&[refused.as_str(), "\n"])
+                concatenated(&[refused.as_str(), "\n"])
             }
         }
     }

@@ -11,7 +11,7 @@ use Rattle.figures.specs.declared.Refusal.TheVariants.{Distance, Height, Ground,
 use Rattle.figures.specs.Refusal.{number_of}
 use Rattle.writing.specs.Bytes.{ascii, fitting, digits_of}
 use Rattle.writing.proofs.Digits.{digits_length, decimal_is}
-use Rattle.writing.proofs.Joining.{fits_as}
+use Rattle.writing.proofs.Concatenation.{fits_as}
 use Rattle.words.specs.Words.{words_of, refused_of, notice_of}
 
 -- no refusal is above two digits, and none is told at length

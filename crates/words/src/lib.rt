@@ -9,7 +9,7 @@ use figures::Refusal;
 use itoa::Buffer;
 use std::fmt;
 use text::Fault;
-use writing::joined;
+use writing::concatenated;
 
 // No notice has more bytes than this.
 pub const NOTICE_BYTES: usize = 450;
@@ -63,7 +63,7 @@ impl Refused {
         let number = u32::from(self.0.refusal);
         let line = self.0.line;
         let (mut before, mut after) = (Buffer::new(), Buffer::new());
-        joined(&[
+        concatenated(&[
             "refused ",
             before.format(number),
             " line ",
@@ -91,7 +91,7 @@ impl Notice {
     {
         let refused = Refused(self.0).text();
         let words = words(self.0.refusal);
-        joined(&["railnoise: ", refused.as_str(), ": ", words, "\n"])
+        concatenated(&["railnoise: ", refused.as_str(), ": ", words, "\n"])
     }
 }
 

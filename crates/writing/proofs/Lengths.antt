@@ -12,7 +12,7 @@ use mir.Facts.{to_z-of_z}
 use Rattle.std.specs.Fmt.{decimal}
 use Rattle.writing.specs.Bytes.{ascii, fitting, digits_of, sign, with_tenths, figure_of}
 use Rattle.writing.proofs.Digits.{digits_length, decimal_is}
-use Rattle.writing.proofs.Joining.{fits_as}
+use Rattle.writing.proofs.Concatenation.{fits_as}
 
 sign-length : (z : ℤ) → length (sign z) ≤ 1
 unfolding sign

@@ -1,4 +1,4 @@
 pub mod Digits
 pub mod Lengths
 pub mod Forms
-pub mod Joining
+pub mod Concatenation

@@ -16,7 +16,7 @@ fn sign(n: i32) -> &'static str
 }
 
 // Parts one after another, in at most `N` bytes. One that has no room for all of it is left out, and then nothing follows it, however short.
-pub fn joined<const N: usize>(parts: &[&str]) -> ArrayString<N>
+pub fn concatenated<const N: usize>(parts: &[&str]) -> ArrayString<N>
     ensures { result.bytes ≡ fitting N (map (λ part. part.now) parts.now) }
 {
     let mut text = ArrayString::new();
@@ -42,7 +42,7 @@ impl Tenths {
         let whole = size / 10;
         let tenth = size % 10;
         let (mut before, mut after) = (Buffer::new(), Buffer::new());
-        joined(&[sign(self.0), before.format(whole), ".", after.format(tenth)])
+        concatenated(&[sign(self.0), before.format(whole), ".", after.format(tenth)])
     }
 }
 

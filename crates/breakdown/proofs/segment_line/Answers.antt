@@ -7,7 +7,7 @@ pub returns : goal.returns
 returns c =
     let number : Fits w64 c.args.number = search rules in
     let parted = c.segment_breakdown_of-parts.ensures.is in
-    c.joined.ensures
+    c.concatenated.ensures
     ∙ segment_is c.args.number c.args.segment number.fits parted.is parted.small c.format.ensures.text c.path_name.ensures c.closing.ensures
     (c.as_str.ensures.value ∙ c.text-distance.ensures)
     (c.as_str-2.ensures.value ∙ c.text-air.ensures)

@@ -7,4 +7,4 @@ pub returns : goal.returns
 returns c =
     let close : Fits w32 c.args.period.close = search rules in
     let short : length c.as_str.result.now ≤ 12 = c.as_str.ensures.fits in
-    c.joined.ensures ∙ result_is c.args.period short close.fits (c.as_str.ensures.value ∙ c.text-level.ensures) c.format.ensures.text c.verdict.ensures
+    c.concatenated.ensures ∙ result_is c.args.period short close.fits (c.as_str.ensures.value ∙ c.text-level.ensures) c.format.ensures.text c.verdict.ensures

@@ -6,7 +6,7 @@ use Rattle.report.proofs.Lines.{silent_is, figure_is}
 use Rattle.report.proofs.Decibels.text.Goals as goal
 
 pub returns-in-Silent : goal.returns-in-Silent
-returns-in-Silent c = c.joined.ensures ∙ silent_is c.in-Silent.is
+returns-in-Silent c = c.concatenated.ensures ∙ silent_is c.in-Silent.is
 
 pub returns-in-Figure : goal.returns-in-Figure
 returns-in-Figure c =

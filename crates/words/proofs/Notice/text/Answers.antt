@@ -7,4 +7,4 @@ pub returns : goal.returns
 returns c =
     let fault = c.args.self.0 in
     let line : Fits w64 fault.line = search rules in
-    c.joined.ensures ∙ notice_is fault.refusal fault.line line.fits (c.as_str.ensures.value ∙ c.text-refused.ensures) c.words-words.ensures
+    c.concatenated.ensures ∙ notice_is fault.refusal fault.line line.fits (c.as_str.ensures.value ∙ c.text-refused.ensures) c.words-words.ensures

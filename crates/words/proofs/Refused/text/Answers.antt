@@ -7,4 +7,4 @@ pub returns : goal.returns
 returns c =
     let fault = c.args.self.0 in
     let line : Fits w64 fault.line = search rules in
-    c.joined.ensures ∙ refused_is fault.refusal fault.line line.fits c.from-number.ensures c.format.ensures.text c.format-2.ensures.text
+    c.concatenated.ensures ∙ refused_is fault.refusal fault.line line.fits c.from-number.ensures c.format.ensures.text c.format-2.ensures.text

@@ -40,26 +40,26 @@ fits_none room = refl
 
 module _ {A : Type 0} (bytes_of : A → List ℕ) (room : ℕ) (parts : List A) where
   -- with the first k parts put
-  pub record Joined (k : ℕ) (bytes : List ℕ) : Type 0 where
+  pub record Put (k : ℕ) (bytes : List ℕ) : Type 0 where
     pub whole : bytes ++ fitting (room - length bytes) (map bytes_of (drop k parts)) ≡ fitting room (map bytes_of parts)
 
-  pub joined_none : (bytes : List ℕ) → bytes ≡ [] → Joined 0 bytes
-  joined_none bytes e = let all : room - 0 ≡ room = omega arith in record { whole = rw (e, all) refl }
+  pub put_none : (bytes : List ℕ) → bytes ≡ [] → Put 0 bytes
+  put_none bytes e = let all : room - 0 ≡ room = omega arith in record { whole = rw (e, all) refl }
 
-  pub joined_all : {k : ℕ} {bytes : List ℕ} → Joined k bytes → length parts ≤ k → bytes ≡ fitting room (map bytes_of parts)
-  joined_all {k} {bytes} so_far h =
+  pub put_all : {k : ℕ} {bytes : List ℕ} → Put k bytes → length parts ≤ k → bytes ≡ fitting room (map bytes_of parts)
+  put_all {k} {bytes} so_far h =
       sym (append-nil bytes) ∙ rw (← fits_none (room - length bytes)) (rw (drop_of_length-le parts h) at so_far.whole)
 
-  module _ {k : ℕ} {bytes : List ℕ} (so_far : Joined k bytes) (next : A) where
+  module _ {k : ℕ} {bytes : List ℕ} (so_far : Put k bytes) (next : A) where
     left : k < length parts → bytes ++ fitting (room - length bytes) (bytes_of (get_or parts k next) ∷ map bytes_of (drop (k + 1) parts)) ≡ fitting room (map bytes_of parts)
     left h = rw (drop_more parts k next h) at so_far.whole
 
-    pub joined_more : {more : List ℕ}
+    pub put_more : {more : List ℕ}
         → k < length parts
         → length bytes + length (bytes_of (get_or parts k next)) ≤ room
         → more ≡ bytes ++ bytes_of (get_or parts k next)
-        → Joined (k + 1) more
-    joined_more h fits e =
+        → Put (k + 1) more
+    put_more h fits e =
         let part : List ℕ = bytes_of (get_or parts k next) in
         let rest : List (List ℕ) = map bytes_of (drop (k + 1) parts) in
         let over : room - (length bytes + length part) ≡ room - length bytes - length part = omega arith in
@@ -69,8 +69,8 @@ module _ {A : Type 0} (bytes_of : A → List ℕ) (room : ℕ) (parts : List A) 
               ∙ rw (sym (fits_next (room - length bytes) part rest (omega arith))) (left h));
         }
 
-    pub joined_full : k < length parts → room < length bytes + length (bytes_of (get_or parts k next)) → length bytes ≤ room → bytes ≡ fitting room (map bytes_of parts)
-    joined_full h full within =
+    pub put_full : k < length parts → room < length bytes + length (bytes_of (get_or parts k next)) → length bytes ≤ room → bytes ≡ fitting room (map bytes_of parts)
+    put_full h full within =
         let part : List ℕ = bytes_of (get_or parts k next) in
         let rest : List (List ℕ) = map bytes_of (drop (k + 1) parts) in
         sym (append-nil bytes) ∙ rw (sym (stops_next (room - length bytes) part rest (omega arith))) (left h)
