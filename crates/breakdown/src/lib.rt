@@ -224,14 +224,6 @@ impl StudyBreakdown<'_> {
     }
 }
 
-impl fmt::Display for StudyBreakdown<'_> {
-    ghost output = { λ b. Some (study_bytes b) };
-
-    fn fmt<W: fmt::Write>(&self, f: &mut fmt::Formatter<W>) -> fmt::Result {
-        f.write_str(self.text().as_str())
-    }
-}
-
 // The breakdown of a study.
 pub fn study_breakdown(study: &Study) -> StudyBreakdown<'_>
     ensures { StudyBrokenDown study.now result }
@@ -260,6 +252,7 @@ impl TextBreakdown {
     }
 }
 
+// For whoever writes it with `{}`; the programs write `text`, as of words' `Notice`.
 impl fmt::Display for TextBreakdown {
     ghost output = { λ b. Some (text_bytes b) };
 

@@ -35,14 +35,6 @@ impl Decibels {
     }
 }
 
-impl fmt::Display for Decibels {
-    ghost output = { λ d. Some (level d.0) };
-
-    fn fmt<W: fmt::Write>(&self, f: &mut fmt::Formatter<W>) -> fmt::Result {
-        f.write_str(self.text().as_str())
-    }
-}
-
 #[tactic(auto, unfolding(crate::specs::Bytes::verdict))]
 fn verdict(met: bool) -> &'static str
     ensures { result.now ≡ verdict met }
@@ -94,6 +86,7 @@ impl Outcome {
     }
 }
 
+// For whoever writes it with `{}`; the programs write `text`, as of words' `Notice`.
 impl fmt::Display for Outcome {
     ghost output = { λ r. Some (written r) };
 

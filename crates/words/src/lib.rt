@@ -72,14 +72,6 @@ impl Refused {
     }
 }
 
-impl fmt::Display for Refused {
-    ghost output = { λ r. Some (refused_of r.0.refusal r.0.line) };
-
-    fn fmt<W: fmt::Write>(&self, f: &mut fmt::Formatter<W>) -> fmt::Result {
-        f.write_str(self.text().as_str())
-    }
-}
-
 // The same for a reader: it is written with the program's name in front and the rule behind.
 #[derive(Clone, Copy)]
 pub struct Notice(pub Fault);
@@ -95,6 +87,7 @@ impl Notice {
     }
 }
 
+// For whoever writes it with `{}`. What std promises of it holds only where `fmt` answers `Ok`, so the programs write `text`.
 impl fmt::Display for Notice {
     ghost output = { λ n. Some (notice_of n.0.refusal n.0.line) };
 

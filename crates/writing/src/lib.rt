@@ -1,12 +1,11 @@
 // How numbers are written, and parts of a text put together.
 #![tactic(auto)]
 
-ghost use Rattle.std.specs.Prelude.{◌≡◌, Some, map};
+ghost use Rattle.std.specs.Prelude.{◌≡◌, map};
 ghost use Rattle.writing.specs.Bytes.{fitting, sign, figure_of};
 
 use arrayvec::ArrayString;
 use itoa::Buffer;
-use std::fmt;
 
 #[tactic(auto, unfolding(crate::specs::Bytes::sign))]
 fn sign(n: i32) -> &'static str
@@ -43,13 +42,5 @@ impl Tenths {
         let tenth = size % 10;
         let (mut before, mut after) = (Buffer::new(), Buffer::new());
         concatenated(&[sign(self.0), before.format(whole), ".", after.format(tenth)])
-    }
-}
-
-impl fmt::Display for Tenths {
-    ghost output = { λ t. Some (figure_of t.0) };
-
-    fn fmt<W: fmt::Write>(&self, f: &mut fmt::Formatter<W>) -> fmt::Result {
-        f.write_str(self.text().as_str())
     }
 }
