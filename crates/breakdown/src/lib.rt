@@ -23,17 +23,19 @@ use writing::{Tenths, concatenated};
 const LEAST_LEVEL: i32 = -2000;
 
 // No line has more bytes than this.
-const LINE: usize = 256;
+const LINE_BYTES: usize = 256;
 
-// Nor the lines of a study's segments than this, those of its train entries, and both.
-const SEGMENT_LINES: usize = MOST_SEGMENTS * LINE;
+// The lines of a study's segments have no more bytes than this.
+const SEGMENTS_BYTES: usize = MOST_SEGMENTS * LINE_BYTES;
 
-const ENTRY_LINES: usize = MOST_ENTRIES * LINE;
+// The lines of a study's train entries have no more bytes than this.
+const ENTRIES_BYTES: usize = MOST_ENTRIES * LINE_BYTES;
 
-pub const STUDY_LINES: usize = SEGMENT_LINES + ENTRY_LINES;
+// No study's breakdown has more bytes than this.
+pub const STUDY_BYTES: usize = SEGMENTS_BYTES + ENTRIES_BYTES;
 
-// Nor those of a text and its report.
-pub const TEXT_LINES: usize = STUDY_LINES + REPORT_BYTES;
+// No text's breakdown, which ends with the report, has more bytes than this.
+pub const TEXT_BYTES: usize = STUDY_BYTES + REPORT_BYTES;
 
 // The level that a working cell holds.
 #[tactic(auto, unfolding(crate::specs::Lines::cell_level))]
@@ -85,7 +87,7 @@ fn closing(close: bool) -> &'static str
 
 // The line of a segment with its number: first the steps from the source to the window, then the readings that the planner enters, then
 // the reflections and the close mark.
-fn segment_line(number: usize, segment: Segment) -> ArrayString<LINE>
+fn segment_line(number: usize, segment: Segment) -> ArrayString<LINE_BYTES>
     ensures { result.bytes ≡ segment_bytes number segment }
 {
     let parts = propagation::segment_breakdown_of(segment);
@@ -136,7 +138,7 @@ struct EntryLine {
 
 impl EntryLine {
     // Its line: first its steps, then the trains step and the level of each period.
-    fn text(self) -> ArrayString<LINE>
+    fn text(self) -> ArrayString<LINE_BYTES>
         ensures { result.bytes ≡ entry_bytes self.number self.segment self.train self.day self.night }
     {
         let (mut number, mut segment) = (Buffer::new(), Buffer::new());
@@ -174,7 +176,7 @@ impl EntryLine {
 }
 
 // A line for each segment.
-fn segment_lines(study: &Study) -> ArrayString<SEGMENT_LINES>
+fn segment_lines(study: &Study) -> ArrayString<SEGMENTS_BYTES>
     ensures { result.bytes ≡ segments_bytes study.now }
 {
     let mut lines = ArrayString::new();
@@ -186,7 +188,7 @@ fn segment_lines(study: &Study) -> ArrayString<SEGMENT_LINES>
 }
 
 // A line for each train entry, from the cells that the request for levels leaves.
-fn entry_lines(study: &Study, cells: &[i32]) -> ArrayString<ENTRY_LINES>
+fn entry_lines(study: &Study, cells: &[i32]) -> ArrayString<ENTRIES_BYTES>
     ensures { result.bytes ≡ entries_bytes study.now cells.now }
 {
     let entries = study.entries();
@@ -215,7 +217,7 @@ pub struct StudyBreakdown<'a> {
 
 impl StudyBreakdown<'_> {
     // What is written of it.
-    pub fn text(&self) -> ArrayString<STUDY_LINES>
+    pub fn text(&self) -> ArrayString<STUDY_BYTES>
         ensures { result.bytes ≡ study_bytes self.now }
     {
         let segments = segment_lines(self.study);
@@ -243,7 +245,7 @@ pub struct TextBreakdown {
 
 impl TextBreakdown {
     // What is written of it.
-    pub fn text(&self) -> ArrayString<TEXT_LINES>
+    pub fn text(&self) -> ArrayString<TEXT_BYTES>
         ensures { result.bytes ≡ text_bytes self.now }
     {
         let lines = study_breakdown(&self.study).text();

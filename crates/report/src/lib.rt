@@ -42,7 +42,8 @@ fn verdict(met: bool) -> &'static str
     if met { "yes" } else { "no" }
 }
 
-// A period's level, close count and verdict.
+// A period's level, close count and verdict, in at most 12 bytes for the level, 10 for the count, 3 for the verdict and a space before the
+// count and the verdict.
 fn result_text(period: PeriodResult) -> ArrayString<27>
     ensures { result.bytes ≡ result_line period }
 {
