@@ -11,7 +11,8 @@ use words::Notice;
 const EBADF: i32 = 9;
 
 // Reads until the buffer is full or the input ends, and answers how much was read. The loop counts by hand, since std's `read_to_end`
-// allocates and the program has no heap, and `read_exact` refuses a text shorter than the buffer.
+// allocates and the program has no heap, and `read_exact` refuses a text shorter than the buffer. The program readings has such a loop too,
+// and says why no crate has it for both.
 fn read_full(input: &mut impl Read, buffer: &mut [u8]) -> io::Result<usize>
     ensures { IfOk result (λ n. n ≤ length buffer.new) }
 {
@@ -27,7 +28,7 @@ fn read_full(input: &mut impl Read, buffer: &mut [u8]) -> io::Result<usize>
 }
 
 fn main(rt: HostRuntime) -> io::Result<()> {
-    // One byte more than a text may have, so that a longer one is refused and not cut.
+    // One byte more than a text may have, 16384, so that a longer one is refused and not cut.
     let mut text = [0u8; 16385];
     let length = match read_full(&mut rt.stdin(), &mut text) {
         // A closed standard input is an empty text.

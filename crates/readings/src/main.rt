@@ -35,8 +35,8 @@ fn show_each(rt: &impl Print, list: &[u8]) -> io::Result<()> {
 }
 
 // Reads until the list is full or the input ends: where no room is left, a read takes nothing.
-// The loop counts by hand, into fixed memory: std's `read_to_end` allocates. The program railnoise has the like, and a crate for both would be
-// no plainer.
+// The loop counts by hand, into fixed memory: std's `read_to_end` allocates. The program railnoise has such a loop too: it is private and has
+// ten lines, and a crate for both would be one more to check.
 fn read_list(input: &mut impl Read, list: &mut [u8]) -> io::Result<usize>
     ensures { IfOk result (λ n. n ≤ length list.new) }
 {
