@@ -11,6 +11,7 @@ ghost use Rattle.breakdown.specs.Breakdown.{segments_bytes, entries_bytes, study
 
 use arrayvec::ArrayString;
 use decibel::Level;
+use energy::LEAST_LEVEL;
 use figures::{Segment, Train};
 use itoa::Buffer;
 use report::{Decibels, Outcome, REPORT_BYTES};
@@ -18,9 +19,6 @@ use request::MOST_CELLS;
 use std::fmt;
 use study::{MOST_ENTRIES, MOST_SEGMENTS, Study};
 use writing::{Tenths, concatenated};
-
-// The least level that a working cell can hold, in tenths: any below it is silent.
-const LEAST_LEVEL: i32 = -2000;
 
 // No line has more bytes than this.
 const LINE_BYTES: usize = 256;
@@ -37,7 +35,7 @@ pub const STUDY_BYTES: usize = SEGMENTS_BYTES + ENTRIES_BYTES;
 // No text's breakdown, which ends with the report, has more bytes than this.
 pub const TEXT_BYTES: usize = STUDY_BYTES + REPORT_BYTES;
 
-// The level that a working cell holds.
+// The level that a working cell holds. No From: a cell is an i32 as any other.
 #[tactic(auto, unfolding(crate::specs::Lines::cell_level))]
 fn level_of(cell: i32) -> Level
     ensures { result ≡ cell_level cell }
