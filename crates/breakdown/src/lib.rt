@@ -12,7 +12,7 @@ ghost use Rattle.breakdown.specs.Breakdown.{segments_bytes, entries_bytes, study
 use arrayvec::ArrayString;
 use decibel::Level;
 use energy::LEAST_LEVEL;
-use figures::{Segment, Train};
+use figures::{Periods, Segment, Train};
 use itoa::Buffer;
 use report::{Decibels, Outcome, REPORT_BYTES};
 use request::MOST_CELLS;
@@ -130,14 +130,13 @@ struct EntryLine {
     number: usize,
     segment: usize,
     train: Train,
-    day: i32,
-    night: i32,
+    cells: Periods<i32>,
 }
 
 impl EntryLine {
     // Its line: first its steps, then the trains step and the level of each period.
     fn text(self) -> ArrayString<LINE_BYTES>
-        ensures { result.bytes ≡ entry_bytes self.number self.segment self.train self.day self.night }
+        ensures { result.bytes ≡ entry_bytes self.number self.segment self.train self.cells.day self.cells.night }
     {
         let (mut number, mut segment) = (Buffer::new(), Buffer::new());
         let parts = emission::train_breakdown_of(self.train);
@@ -147,8 +146,8 @@ impl EntryLine {
         let by_day = Decibels(parts.trains.day);
         let by_night = Decibels(parts.trains.night);
         let (by_day, by_night) = (by_day.text(), by_night.text());
-        let day = Decibels(level_of(self.day)).text();
-        let night = Decibels(level_of(self.night)).text();
+        let day = Decibels(level_of(self.cells.day)).text();
+        let night = Decibels(level_of(self.cells.night)).text();
         concatenated(&[
             "train ",
             number.format(self.number),
@@ -198,8 +197,7 @@ fn entry_lines(study: &Study, cells: &[i32]) -> ArrayString<ENTRIES_BYTES>
             number: k + 1,
             segment: number_of(entry.segment),
             train: entry.train,
-            day,
-            night,
+            cells: Periods { day, night },
         };
         lines.push_str(line.text().as_str());
     }
