@@ -1,6 +1,6 @@
 -- The search by halves: what it keeps, and what it has found when no speed is left between its bounds.
 -- Assumes nothing.
-use mathlib.Core.Path.{◌≡◌, refl, sym, subst}
+use mathlib.Core.Path.{◌≡◌, refl, sym, ap, ◌∙◌, subst}
 use mathlib.Core.Bool.{Bool, true, false, ◌&&◌}
 use Prim.Native.Nat.{ℕ, zero, suc, ◌+◌, ◌-◌, ◌≤◌, ◌<◌}
 use native.Mathlib.Omega.{arith}
@@ -13,6 +13,8 @@ use Rattle.emission.specs.Speed.{least_counted}
 use Rattle.speeds.specs.Speeds.{stays_below, highest_below}
 use Rattle.speeds.specs.Private.{speed_found}
 use Rattle.std.specs.Prelude.{Some}
+use Rattle.std.specs.Bool.{then_some}
+use Rattle.std.proofs.lemmas.Bool.{leb-false}
 use Rattle.speeds.proofs.Below.{below_falls}
 use Rattle.speeds.proofs.Faster.{Rising}
 
@@ -25,7 +27,7 @@ pub record Between (limit : ℤ) (total : ℕ → Level) (low high : ℕ) : Type
   pub none : (v : ℕ) → high < v → v ≤ most_speed → T (stays_below limit (total v)) → ⊥
 
 -- a speed that is one
-pub found_some : (v : ℕ) → 0 < v → Some v ≡ speed_found v
+found_some : (v : ℕ) → 0 < v → Some v ≡ speed_found v
 unfolding speed_found
 found_some zero h = absurd (omega (arith, h))
 found_some (suc v) h = refl
@@ -53,13 +55,13 @@ module _ (limit : ℤ) (total : ℕ → Level) where
   second true b q = q
   second false b q = absurd q
 
-  pub search_found : (low high : ℕ) → Between limit total low high → high ≤ low → least_counted ≤ low → low ≡ highest_below limit total
+  search_found : (low high : ℕ) → Between limit total low high → high ≤ low → least_counted ≤ low → low ≡ highest_below limit total
   unfolding highest_below
   search_found low high old met some =
       sym (greatest_only (λ v. leb least_counted v && stays_below limit (total v)) most_speed low (omega (arith, old.order, old.most)) (λ z. both (leb least_counted low) _ (le→leb least_counted low some) (old.below some))
       (λ m l h t. old.none m (omega arith) h (second (leb least_counted m) _ t)))
 
-  pub search_none : (low high : ℕ) → Between limit total low high → high ≤ low → low < least_counted → 0 ≡ highest_below limit total
+  search_none : (low high : ℕ) → Between limit total low high → high ≤ low → low < least_counted → 0 ≡ highest_below limit total
   unfolding highest_below
   search_none low high old met few =
       sym (greatest_only (λ v. leb least_counted v && stays_below limit (total v)) most_speed 0 (omega arith) (λ z. absurd (omega arith))
@@ -71,3 +73,12 @@ module _ (limit : ℤ) (total : ℕ → Level) where
           first : (a b : Bool) → T (a && b) → T a
           first true b q = tt
           first false b q = q
+
+  -- what the search answers
+  pub search_told : (low high : ℕ) → Between limit total low high → high ≤ low → then_some (leb least_counted low) low ≡ speed_found (highest_below limit total)
+  unfolding speed_found
+  search_told low high old met = go (leb least_counted low) refl
+    where
+      go : (b : Bool) → leb least_counted low ≡ b → then_some b low ≡ speed_found (highest_below limit total)
+      go true e = let some : least_counted ≤ low = leb→le least_counted low (subst T (sym e) tt) in found_some low (omega (arith, some)) ∙ ap speed_found (search_found low high old met some)
+      go false e = ap speed_found (search_none low high old met (leb-false least_counted low e))

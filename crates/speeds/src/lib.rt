@@ -85,10 +85,7 @@ impl Asked<'_> {
                 high = middle - 1;
             }
         }
-        if low < LEAST_COUNTED {
-            return None;
-        }
-        Some(low)
+        (LEAST_COUNTED <= low).then_some(low)
     }
 }
 
@@ -120,7 +117,8 @@ pub fn highest_speed_from(
     asked.highest().ok_or(Refusal::NoSpeed)
 }
 
-// What the segment at a place adds to a level; nothing where there is none.
+// What the segment at a place adds to a level; nothing where there is none. Not request's, which reads what was worked out of each segment:
+// this works out the one that is asked for.
 #[tactic(auto, using(crate::proofs::Trials::none_at))]
 fn tenths_at(segments: &[Segment], place: usize) -> i16
     ensures { result ≡ (propagation_of (get_or segments.now place no_segment)).tenths }
@@ -149,6 +147,7 @@ pub fn highest_speed(
     if entry == 0 || total < entry {
         return Err(outside);
     }
+    // Fixed memory, since there is no heap; a period's part of it is handed on.
     let mut cells = [0i32; MOST_CELLS];
     // Never refused: the study has an entry, and the cells are as many as any study needs.
     let _ = levels(study, &mut cells);
