@@ -58,13 +58,11 @@ pub fn text_speed(text: &[u8], entry: usize, period: Period, limit: i32) -> Resu
     ensures answered { TextSpeedAnswered text.now entry period limit result }
     ensures number { check_number (check_at result) ≡ text_speed_number text.now entry period limit }
 {
+    // Fixed memory, since there is no heap; a period's part of it is handed on.
     let mut cells = [0i32; MOST_CELLS];
     let _ = text_levels(text, &mut cells)?;
     // The text is accepted, so no line is at fault.
-    let outside = Fault {
-        refusal: Refusal::EntryNumber,
-        line: 0,
-    };
+    let outside = Fault::from(Refusal::EntryNumber);
     if entry == 0 {
         return Err(outside);
     }
@@ -74,8 +72,5 @@ pub fn text_speed(text: &[u8], entry: usize, period: Period, limit: i32) -> Resu
     let from = first_cell(period, total);
     let own = &cells[from..from + total];
     let tenths = added_to(own[entry - 1], train, period);
-    highest_speed_from(own, entry, tenths, train, period, limit).map_err(|refusal| Fault {
-        refusal,
-        line: 0,
-    })
+    highest_speed_from(own, entry, tenths, train, period, limit).map_err(Fault::from)
 }

@@ -15,12 +15,12 @@ returns-in_err-text_levels c =
 pub returns-then-entry-eq0 : goal.returns-then-entry-eq0
 returns-then-entry-eq0 c =
     let a = zero_told _ c.args.entry c.args.period c.args.limit refl c.in_ok-text_levels.ensures.answered c.if-entry-eq0.true in
-    record { answered = a; number = text_numbered a }
+    rw c.from-outside.ensures (record { answered = a; number = text_numbered a })
 
 pub returns-in_default : goal.returns-in_default
 returns-in_default c =
     let a = past_told _ c.args.entry c.args.period c.args.limit refl c.in_ok-text_levels.ensures.answered c.if-entry-eq0.false c.train_in.ensures (search rules) in
-    record { answered = a; number = text_numbered a }
+    rw c.from-outside.ensures (record { answered = a; number = text_numbered a })
 
 pub returns : goal.returns
 returns c =
