@@ -16,10 +16,10 @@ use figures::{Period, Refusal, Segment, Train};
 use request::{MOST_CELLS, entry_cells, first_cell, levels};
 use study::{MOST_ENTRIES, Study};
 
-// The speeds that may be answered, in km/h.
-const LEAST_COUNTED: u32 = 20;
+// The speeds that may be answered, in km/h: from the least that a train counts with to the most that can be typed.
+const LEAST_SPEED: u32 = emission::LEAST_COUNTED as u32;
 
-const MOST_SPEED: u32 = 300;
+const MOST_SPEED: u32 = figures::ranges::MOST_SPEED as u32;
 
 // Whether a level, to the nearest whole decibel, stays below the limit; silent does. Ten times the limit may need more than 32 bits.
 #[tactic(auto, unfolding(crate::specs::Speeds::stays_below), using(crate::proofs::Below::figure_below))]
@@ -75,7 +75,7 @@ impl Asked<'_> {
     fn highest(&self) -> Option<u32>
         ensures { result ≡ speed_found (highest_below self.now.limit (total_at self.now.period self.now.cells.now self.now.place self.now.tenths self.now.train)) }
     {
-        let mut low = LEAST_COUNTED - 1;
+        let mut low = LEAST_SPEED - 1;
         let mut high = MOST_SPEED;
         while low < high {
             let middle = (low + high + 1) / 2;
@@ -85,7 +85,7 @@ impl Asked<'_> {
                 high = middle - 1;
             }
         }
-        (LEAST_COUNTED <= low).then_some(low)
+        (LEAST_SPEED <= low).then_some(low)
     }
 }
 
