@@ -27,8 +27,8 @@ fn train_in(text: &[u8], place: usize) -> (usize, Option<Train>)
     let Some((_, mut rest)) = split_line(text) else {
         return (total, train);
     };
-    // Where no line feed ends it, or none is left, an accepted text has no more lines. One walk tells both: a chain over std's `split`
-    // would read the lines twice, for how many there are and for the one.
+    // Where no line feed ends it, or none is left, an accepted text has no more lines. For speed one walk tells both, how many there are and
+    // the one: a chain over std's `split` would read the lines twice.
     while let Some((line, next)) = split_line(rest) {
         if let Some(read) = train_of(line) {
             if total == place {
