@@ -49,7 +49,7 @@ pub struct PeriodEntitlement {
     pub entitled: bool,
 }
 
-// Both periods, and whether the house is entitled in either.
+// Both periods, and whether the house is entitled in either. By name, here and as what is asked, not `Periods`: as C's answer has them.
 #[derive(Clone, Copy)]
 pub struct Entitlement {
     pub day: PeriodEntitlement,
@@ -80,7 +80,7 @@ impl Entitlement {
     }
 }
 
-// A level as its working cell holds it.
+// A level as its working cell holds it. No `From`: a cell is an i32 as any other.
 #[tactic(auto, unfolding(request::specs::Levels::cell_of))]
 fn cell_of(level: Level) -> i32
     ensures { result ≡ cell_of level }
@@ -181,7 +181,7 @@ fn report_of(lines: Option<&Study>) -> Result<Periods<Level>, Refusal>
     let Some(study) = lines else {
         return Ok(reported(None));
     };
-    // As many cells as the entries need.
+    // As many cells as the entries need, of fixed memory: there is no heap.
     let mut cells = [0i32; MOST_CELLS];
     let total = study.entries().len();
     let answer = request::levels(study, &mut cells[..total + total])?;
