@@ -146,7 +146,7 @@ pub fn first_cell(period: Period, entries: usize) -> usize
 }
 
 // Both periods' results from what each segment adds and the entries, whose levels are written into the first cells; on a refusal the
-// cells are as they were.
+// cells are as they were. The two are lists and no struct of them, as both callers hold them: a struct would be made for this call alone.
 pub fn levels_by(
     added: &[Propagation],
     entries: &[Entry],

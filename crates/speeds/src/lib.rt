@@ -90,7 +90,8 @@ impl Asked<'_> {
 }
 
 // The highest speed from levels as computed: the cells of a period's entries, which entry is asked for, counted from 1, what its segment
-// adds, and its train; the entry's own cell makes no difference. Cells past the 96th are not read, and an entry there is 25.
+// adds, and its train; the entry's own cell makes no difference. Cells past the 96th are not read, and an entry there is 25. An entry, a
+// period and a limit stay parameters, here and of text_speeds, as C hands them over.
 pub fn highest_speed_from(
     cells: &[i32],
     entry: usize,
