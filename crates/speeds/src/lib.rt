@@ -63,6 +63,7 @@ impl Asked<'_> {
         requires { speed ≤ most_speed }
         ensures { result ≡ stays_below self.now.limit (total_at self.now.period self.now.cells.now self.now.place self.now.tenths self.now.train speed) }
     {
+        // For speed an array and a part of it: an `ArrayVec` by `try_from` proves too, but takes a quarter more instructions of a short request.
         let mut changed = [0i32; MOST_ENTRIES];
         let changed = &mut changed[..self.cells.len()];
         changed.copy_from_slice(self.cells);
