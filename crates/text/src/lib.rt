@@ -139,7 +139,11 @@ fn read_opening(text: &[u8]) -> Result<(ArrayVec<usize, MOST_SEGMENTS>, &[u8]), 
     ensures { MatchResult result (λ r. read_text ours text.now ≡ body_reading r.0.items r.1.now) (λ e. read_text ours text.now ≡ refused_at e.refusal e.line) }
 {
     if MOST_BYTES < text.len() {
-        return Err(Fault::from(Refusal::Form));
+        // By hand, for speed: by `From` a short text takes some hundred instructions more.
+        return Err(Fault {
+            refusal: Refusal::Form,
+            line: 0,
+        });
     }
     read_contents(text).map_err(|refusal| Fault { refusal, line: 1 })
 }
