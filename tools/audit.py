@@ -24,7 +24,7 @@ LONG = {
     "lines segment_of": "documents 01 and 02 ask for a `let .. else` for each of the 15 fields",
     "text answer_lines": "document 01 asks for a labelled nest of the lines, and each of its ways ends the reading",
 }
-# Written by tools/tables.py: a table's function has an arm for each entry.
+# Written by tools/tables.py, row after row.
 TABLES = {"crates/small_logs/src/lib.rt", "crates/decibel_tables/src/lib.rt", "crates/energy_tables/src/lib.rt"}
 
 # What a folder holds, by suffix or name. Folders that a build or git fills are left out.

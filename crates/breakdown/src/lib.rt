@@ -58,10 +58,7 @@ fn cell_at(cells: &[i32], k: usize) -> i32
 fn number_of(k: usize) -> usize
     ensures { result ≡ place_number k }
 {
-    if k < MOST_SEGMENTS {
-        return k + 1;
-    }
-    MOST_SEGMENTS
+    k.min(MOST_SEGMENTS - 1) + 1
 }
 
 // The name of the ground step, or of the screen's instead of it.

@@ -9,7 +9,7 @@ use crate::kept::Kept;
 use decibel::Level;
 use figures::{Period, Train, natural};
 
-// The trains of a period.
+// The trains of a period. Not `Periods::of`: a train's figures have the names under which they are typed.
 fn trains_in(train: Train, period: Period) -> u64
     ensures { result ≡ trains_in period train }
 {

@@ -77,7 +77,7 @@ fn screen_by(shaded: bool, m: u64) -> i32
     0
 }
 
-// The far wall's height in metres; a lower one than LEAST_WALL does nothing.
+// The far wall's height in metres; a lower one than LEAST_WALL does nothing, as 0 metres do in the formula.
 fn wall_metres(ranged: InRange) -> u64
     ensures { result ≡ wall_metres ranged.segment }
 {

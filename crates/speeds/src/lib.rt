@@ -17,7 +17,7 @@ use request::{MOST_CELLS, entry_cells, first_cell, levels};
 use study::{MOST_ENTRIES, Study};
 
 // The speeds that may be answered, in km/h: from the least that a train counts with to the most that can be typed.
-const LEAST_SPEED: u32 = emission::LEAST_COUNTED as u32;
+const LEAST_COUNTED: u32 = emission::LEAST_COUNTED as u32;
 
 const MOST_SPEED: u32 = figures::ranges::MOST_SPEED as u32;
 
@@ -76,7 +76,7 @@ impl Asked<'_> {
     fn highest(&self) -> Option<u32>
         ensures { result ≡ speed_found (highest_below self.now.limit (total_at self.now.period self.now.cells.now self.now.place self.now.tenths self.now.train)) }
     {
-        let mut low = LEAST_SPEED - 1;
+        let mut low = LEAST_COUNTED - 1;
         let mut high = MOST_SPEED;
         while low < high {
             let middle = (low + high + 1) / 2;
@@ -86,7 +86,7 @@ impl Asked<'_> {
                 high = middle - 1;
             }
         }
-        (LEAST_SPEED <= low).then_some(low)
+        (LEAST_COUNTED <= low).then_some(low)
     }
 }
 
