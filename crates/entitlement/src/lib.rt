@@ -172,7 +172,8 @@ pub fn reported(results: Option<Periods<PeriodResult>>) -> Periods<Level>
     }
 }
 
-// What lines report: 23, or the level of each period. Lines that are marked as empty are silent.
+// What lines report: 23, or the level of each period. Lines that are marked as empty are silent. The C function has the like of texts, which
+// tells the text at fault too; what both share is `reported`.
 #[tactic(auto, using(crate::proofs::Reports::empty_reports))]
 fn report_of(lines: Option<&Study>) -> Result<Periods<Level>, Refusal>
     ensures answer { result ≡ report (option_copied lines.entry) }

@@ -142,7 +142,7 @@ pub fn highest_speed(
     ensures answered { SpeedAnswered study.now entry period limit result }
     ensures number { check_number (check_of result) ≡ speed_number entry (length study.now.entries) (highest_in study.now entry period limit) }
 {
-    // A study without entries is refused so too, in place of 23.
+    // A study without entries is refused so too, in place of 23. `highest_speed_from` asks the same of cells: here it spares working them out.
     let outside = Refusal::EntryNumber;
     let entries = study.entries();
     let total = entries.len();

@@ -61,7 +61,7 @@ pub fn text_speed(text: &[u8], entry: usize, period: Period, limit: i32) -> Resu
     // Fixed memory, since there is no heap; a period's part of it is handed on.
     let mut cells = [0i32; MOST_CELLS];
     let _ = text_levels(text, &mut cells)?;
-    // The text is accepted, so no line is at fault.
+    // The text is accepted, so no line is at fault. As in speeds, but of lines, which are not counted before the entry is looked for.
     let outside = Fault::from(Refusal::EntryNumber);
     if entry == 0 {
         return Err(outside);
