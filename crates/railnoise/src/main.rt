@@ -5,7 +5,6 @@ ghost use Rattle.std.specs.Prelude.{◌≤◌, length, IfOk};
 
 use std::io;
 use std::io::Read;
-use words::Notice;
 
 // The system's number for a read where nothing is open.
 const EBADF: i32 = 9;
@@ -38,9 +37,6 @@ fn main(rt: HostRuntime) -> io::Result<()> {
     let outcome = report::report(&text[..length]);
     // The notice is written even where the report could not be.
     let shown = rt.stdout().write_all(outcome.text().as_str().as_bytes());
-    if let Err(fault) = outcome.0 {
-        rt.stderr()
-            .write_all(Notice(fault).text().as_str().as_bytes())?;
-    }
+    rt.stderr().write_all(outcome.notice().as_str().as_bytes())?;
     shown
 }

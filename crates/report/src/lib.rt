@@ -4,7 +4,7 @@
 ghost use Rattle.std.specs.Prelude.{◌≡◌, Some};
 ghost use Rattle.report.specs.Bytes.{level, verdict};
 ghost use Rattle.report.specs.Private.{result_line};
-ghost use Rattle.report.specs.Report.{written, Reported};
+ghost use Rattle.report.specs.Report.{written, noticed, Reported};
 
 use arrayvec::ArrayString;
 use decibel::Level;
@@ -13,7 +13,7 @@ use itoa::Buffer;
 use request::{MOST_CELLS, PeriodResult};
 use std::fmt;
 use text::Fault;
-use words::Refused;
+use words::{NOTICE_BYTES, Notice, Refused};
 use writing::{Tenths, concatenated};
 
 // No report has more bytes than this.
@@ -83,6 +83,17 @@ impl Outcome {
                 let refused = Refused(fault).text();
                 concatenated(&[refused.as_str(), "\n"])
             }
+        }
+    }
+
+    // The notice beside it: nothing of an answer.
+    #[tactic(auto, unfolding(crate::specs::Report::noticed))]
+    pub fn notice(self) -> ArrayString<NOTICE_BYTES>
+        ensures { result.bytes ≡ noticed self }
+    {
+        match self.0 {
+            Ok(_) => ArrayString::new(),
+            Err(fault) => Notice(fault).text(),
         }
     }
 }
