@@ -4,6 +4,7 @@ use crate::merges::near;
 use figures::{Period, Segment, Train};
 use std::io;
 use study::Study;
+use writing::signed;
 
 fn open_segment() -> Segment {
     Segment {
@@ -118,6 +119,7 @@ fn show_speed(
     };
     let answer = speeds::highest_speed(study, entry, period, limit);
     let speed = answer.unwrap_or(0);
+    let limit = signed(limit);
     print!(rt; "entry {entry} {name} limit {limit} speed {speed}")?;
     show(rt, "", &answer)
 }

@@ -27,6 +27,10 @@ unfoldable pub sign : ℤ → List ℕ
 sign (pos n) = []
 sign (negsuc n) = ascii "-"
 
+-- a signed number in decimal
+unfoldable pub signed_of : ℤ → List ℕ
+signed_of z = sign z ++ digits_of (nat_abs z)
+
 -- so many tenths, with one decimal
 unfoldable pub with_tenths : ℕ → List ℕ
 with_tenths n = digits_of (n / 10) ++ (ascii "." ++ digits_of (n % 10))

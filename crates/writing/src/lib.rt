@@ -2,7 +2,7 @@
 #![tactic(auto)]
 
 ghost use Rattle.std.specs.Prelude.{◌≡◌, map};
-ghost use Rattle.writing.specs.Bytes.{fitting, sign, figure_of};
+ghost use Rattle.writing.specs.Bytes.{fitting, sign, signed_of, figure_of};
 
 use arrayvec::ArrayString;
 use itoa::Buffer;
@@ -26,6 +26,14 @@ pub fn concatenated<const N: usize>(parts: &[&str]) -> ArrayString<N>
         text.push_str(part);
     }
     text
+}
+
+// A number in decimal, with a minus if below zero: an i32 takes a sign and ten digits at most.
+pub fn signed(n: i32) -> ArrayString<11>
+    ensures { result.bytes ≡ signed_of n }
+{
+    let mut size = Buffer::new();
+    concatenated(&[sign(n), size.format(n.unsigned_abs())])
 }
 
 // Tenths: they are written with one decimal, and a minus if below zero.
