@@ -1,8 +1,9 @@
-// How numbers are written, and parts of a text put together.
+// How numbers are written, parts of a text put together, and bytes put at a place.
 #![tactic(auto)]
 
 ghost use Rattle.std.specs.Prelude.{◌≡◌, map};
 ghost use Rattle.writing.specs.Bytes.{fitting, sign, signed_of, figure_of};
+ghost use Rattle.writing.specs.Pages.{Put};
 
 use arrayvec::ArrayString;
 use itoa::Buffer;
@@ -26,6 +27,22 @@ pub fn concatenated<const N: usize>(parts: &[&str]) -> ArrayString<N>
         text.push_str(part);
     }
     text
+}
+
+// Bytes at a place of `out`: answers the place after them. Where there is no room for all of them, `out` stays as it is and its end is
+// answered, so that nothing shorter follows what was left out.
+pub fn put(out: &mut [u8], at: usize, bytes: &[u8]) -> usize
+    ensures { Put out.old at bytes.now out.new result }
+{
+    if out.len() < at {
+        return at;
+    }
+    if out.len() - at < bytes.len() {
+        return out.len();
+    }
+    let next = at + bytes.len();
+    out[at..next].copy_from_slice(bytes);
+    next
 }
 
 // A number in decimal, with a minus if below zero: an i32 takes a sign and ten digits at most.
