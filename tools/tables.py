@@ -1,6 +1,6 @@
 #!/usr/bin/env python3
 """Writes the crates small_logs, decibel_tables and energy_tables from their formulas: each table as an array of src/lib.rt, as a list of
-specs/Lists.antt, and that the array is the list, in proofs/Arrays.antt.
+specs/Lists.antt, and that the array is the list, in proofs/Arrays.antt; in src/at.rt a function for what stands at a place.
 
 Every entry is settled in whole numbers. A decimal estimate only says where to look: an entry is kept when it passes its test and
 its neighbour does not, by powers of whole numbers. With --check nothing is written; the committed files are compared.
@@ -107,6 +107,18 @@ def energy_tables():
 
 
 CRATES = {"small_logs": small_logs, "decibel_tables": decibel_tables, "energy_tables": energy_tables}
+# The functions of src/at.rt that read a part of a table: its name, what it says, the table, and from which entry to before which.
+PARTS = {
+    "small_logs": [
+        ("twenty_log_lower", "20 log v in tenths for v below 101, of 0 that of 1", "twenty_log", 0, 101),
+        ("twenty_log_middle", "20 log v in tenths for v from 101 to 200, counted from 101", "twenty_log", 101, 201),
+        ("twenty_log_upper", "20 log v in tenths for v from 201 to 300, counted from 201", "twenty_log", 201, 301),
+    ]
+}
+# The tables that are searched, in the order of their numbers for `entry`.
+NUMBERED = {"decibel_tables": ["decade", "shadow", "distance", "illuminated", "fine"]}
+# What an entry of each kind is handed out as.
+HANDED = {"u16": "u32", "u32": "u64", "u64": "u64"}
 # What is said of a table beside its formula, in its array's file alone.
 BESIDE = {"mark_begin": "Two arrays and no pairs: a search walks the first alone, and each is its formula's list by a law of its own."}
 WRITTEN = "written by tools/tables.py from the formulas, in whole numbers."
@@ -123,11 +135,22 @@ def lined(words, width=100):
     return "\n".join(lines + [line])
 
 
-def lists(tables):
-    text = f"-- The tables as lists: {WRITTEN}\n-- Assumes nothing.\nuse Rattle.std.specs.Prelude.{{List, [], ◌∷◌, ℕ}}\n"
+def lists(crate, tables):
+    words = "List, [], ◌∷◌, ℕ" + (", zero, suc" if crate in NUMBERED else "") + (", take, drop" if crate in PARTS else "")
+    text = f"-- The tables as lists: {WRITTEN}\n-- Assumes nothing.\nuse Rattle.std.specs.Prelude.{{{words}}}\n"
     for name, says, _, values in tables:
         text += f"\n-- {says[0].lower()}{says[1:]}\nunfoldable pub {name}_list : List ℕ\n{name}_list =\n"
         text += lined([f"{value} ∷" for value in values] + ["[]"]) + "\n"
+    for name, says, of, start, end in PARTS.get(crate, []):
+        rest = f"(drop {start} {of}_list)" if start else f"{of}_list"
+        text += f"\n-- {says[0].lower()}{says[1:]}\nunfoldable pub {name}_list : List ℕ\n{name}_list = take {end - start} {rest}\n"
+    if crate in NUMBERED:
+        number = "zero"
+        text += "\n-- the tables that are searched, by number\nabbrev pub list_of : ℕ → List ℕ\n"
+        for name in NUMBERED[crate]:
+            text += f"list_of {number} = {name}_list\n"
+            number = f"(suc {number})"
+        text += f"list_of {number.replace('zero', 'number')} = []\n"
     return text
 
 
@@ -139,9 +162,34 @@ def array(values):
 
 def source(tables):
     text = f"// Tables that the crates above read in place: each is the list of its name in specs/Lists.antt (proofs/Arrays.antt).\n// {WRITTEN.capitalize()}\n"
+    text += "#![tactic(auto)]\n\npub mod at;\n"
     for name, says, kind, values in tables:
         beside = f"// {BESIDE[name]}\n" if name in BESIDE else ""
         text += f"\n// {says}.\n{beside}pub static {name.upper()}: [{kind}; {len(values)}] = [\n{array(values)}\n];\n"
+    return text
+
+
+def places(crate, tables):
+    """What stands at a place, for callers that do not know how long a table is."""
+    kinds = {name: kind for name, _, kind, _ in tables}
+    parts = PARTS.get(crate, [])
+    whole = [(name, says, name, None) for name, says, *_ in tables if name not in {of for _, _, of, _, _ in parts}]
+    functions = whole + [(name, says, of, f"{start or ''}..{end}") for name, says, of, start, end in parts]
+    numbered = NUMBERED.get(crate, [])
+    cited = ", ".join([f"{name}_list" for name, *_ in functions] + (["list_of"] if numbered else []))
+    text = f"// What stands at a place of a table, and 0 past its last.\n// {WRITTEN.capitalize()}\n\nghost use Rattle.std.specs.Prelude.{{◌≡◌, get_or}};\n"
+    text += f"ghost use Rattle.{crate}.specs.Lists.{{{cited}}};\n\nuse crate::{{{', '.join(sorted(name.upper() for name in kinds))}}};\n"
+    for name, says, of, part in functions:
+        opened = f", unfolding(crate::specs::Lists::{name}_list)" if part else ""
+        body = f"{of.upper()}{f'[{part}]' if part else ''}.get(i).copied().unwrap_or(0)"
+        handed = HANDED[kinds[of]]
+        text += f"\n// {says}; 0 past the last.\n#[tactic(auto, using(crate::proofs::Arrays::{of}_is){opened})]\n"
+        text += f"pub fn {name}(i: usize) -> {handed}\n    ensures {{ result ≡ get_or {name}_list i 0 }}\n"
+        text += f"{{\n    {body if handed == kinds[of] else f'{handed}::from({body})'}\n}}\n"
+    if numbered:
+        arms = "".join(f"        {number} => {name}(i),\n" for number, name in enumerate(numbered))
+        text += "\n// Entry i of a table by its number, as the arms say; 0 of any other.\npub fn entry(table: usize, i: usize) -> u64\n"
+        text += f"    ensures {{ result ≡ get_or (list_of table) i 0 }}\n{{\n    match table {{\n{arms}        _ => 0,\n    }}\n}}\n"
     return text
 
 
@@ -159,7 +207,8 @@ def files():
     for crate, made in CRATES.items():
         tables = made()
         yield f"crates/{crate}/src/lib.rt", source(tables)
-        yield f"crates/{crate}/specs/Lists.antt", lists(tables)
+        yield f"crates/{crate}/src/at.rt", places(crate, tables)
+        yield f"crates/{crate}/specs/Lists.antt", lists(crate, tables)
         yield f"crates/{crate}/proofs/Arrays.antt", proof(crate, tables)
 
 

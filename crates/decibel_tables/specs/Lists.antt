@@ -1,6 +1,6 @@
 -- The tables as lists: written by tools/tables.py from the formulas, in whole numbers.
 -- Assumes nothing.
-use Rattle.std.specs.Prelude.{List, [], ◌∷◌, ℕ}
+use Rattle.std.specs.Prelude.{List, [], ◌∷◌, ℕ, zero, suc}
 
 -- where each tenth of 10 log n begins, from 85.1 to 95.2 dB
 unfoldable pub decade_list : List ℕ
@@ -126,3 +126,12 @@ sine_list =
     956304756 ∷ 961261696 ∷ 965925826 ∷ 970295726 ∷ 974370065 ∷ 978147601 ∷ 981627183 ∷ 984807753 ∷
     987688341 ∷ 990268069 ∷ 992546152 ∷ 994521895 ∷ 996194698 ∷ 997564050 ∷ 998629535 ∷ 999390827 ∷
     999847695 ∷ 1000000000 ∷ []
+
+-- the tables that are searched, by number
+abbrev pub list_of : ℕ → List ℕ
+list_of zero = decade_list
+list_of (suc zero) = shadow_list
+list_of (suc (suc zero)) = distance_list
+list_of (suc (suc (suc zero))) = illuminated_list
+list_of (suc (suc (suc (suc zero)))) = fine_list
+list_of (suc (suc (suc (suc (suc number))))) = []

@@ -1,5 +1,8 @@
 // Tables that the crates above read in place: each is the list of its name in specs/Lists.antt (proofs/Arrays.antt).
 // Written by tools/tables.py from the formulas, in whole numbers.
+#![tactic(auto)]
+
+pub mod at;
 
 // Where each tenth of 10 log n begins, from 85.1 to 95.2 dB.
 pub static DECADE: [u64; 102] = [

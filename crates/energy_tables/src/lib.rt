@@ -1,5 +1,8 @@
 // Tables that the crates above read in place: each is the list of its name in specs/Lists.antt (proofs/Arrays.antt).
 // Written by tools/tables.py from the formulas, in whole numbers.
+#![tactic(auto)]
+
+pub mod at;
 
 // The weight of a level 0 to 99 tenths below the loudest.
 pub static WEIGHT: [u64; 100] = [

@@ -1,6 +1,6 @@
 -- The tables as lists: written by tools/tables.py from the formulas, in whole numbers.
 -- Assumes nothing.
-use Rattle.std.specs.Prelude.{List, [], ◌∷◌, ℕ}
+use Rattle.std.specs.Prelude.{List, [], ◌∷◌, ℕ, take, drop}
 
 -- 10 log n in tenths for n below 200, of 0 that of 1
 unfoldable pub small_log_list : List ℕ
@@ -41,3 +41,15 @@ twenty_log_list =
     482 ∷ 482 ∷ 483 ∷ 483 ∷ 483 ∷ 484 ∷ 484 ∷ 484 ∷ 485 ∷ 485 ∷ 485 ∷ 486 ∷ 486 ∷ 486 ∷ 487 ∷ 487 ∷
     487 ∷ 488 ∷ 488 ∷ 488 ∷ 488 ∷ 489 ∷ 489 ∷ 489 ∷ 490 ∷ 490 ∷ 490 ∷ 491 ∷ 491 ∷ 491 ∷ 492 ∷ 492 ∷
     492 ∷ 492 ∷ 493 ∷ 493 ∷ 493 ∷ 494 ∷ 494 ∷ 494 ∷ 495 ∷ 495 ∷ 495 ∷ 495 ∷ []
+
+-- 20 log v in tenths for v below 101, of 0 that of 1
+unfoldable pub twenty_log_lower_list : List ℕ
+twenty_log_lower_list = take 101 twenty_log_list
+
+-- 20 log v in tenths for v from 101 to 200, counted from 101
+unfoldable pub twenty_log_middle_list : List ℕ
+twenty_log_middle_list = take 100 (drop 101 twenty_log_list)
+
+-- 20 log v in tenths for v from 201 to 300, counted from 201
+unfoldable pub twenty_log_upper_list : List ℕ
+twenty_log_upper_list = take 100 (drop 201 twenty_log_list)

@@ -1,5 +1,8 @@
 // Tables that the crates above read in place: each is the list of its name in specs/Lists.antt (proofs/Arrays.antt).
 // Written by tools/tables.py from the formulas, in whole numbers.
+#![tactic(auto)]
+
+pub mod at;
 
 // 10 log n in tenths for n below 200, of 0 that of 1.
 pub static SMALL_LOG: [u16; 200] = [
