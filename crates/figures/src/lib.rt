@@ -7,7 +7,7 @@ ghost use Rattle.std.specs.Prelude.{◌≡◌, ◌*ℤ◌};
 ghost use Rattle.decibel.specs.Ints.{up};
 ghost use Rattle.figures.specs.Geometry.{slant, in_shadow};
 ghost use Rattle.figures.specs.Private.{Square};
-ghost use Rattle.figures.specs.Refusal.{number_of};
+ghost use Rattle.figures.specs.Refusal.{number_of, check_number};
 ghost use Rattle.figures.specs.Rules.{within, unscreened};
 
 // One length of track as document 01 and request L1 number its fields: lengths in centimetres but for the last, angles in degrees, readings in tenths.
@@ -132,6 +132,17 @@ impl From<Refusal> for u32 {
     #[tactic(auto, unfolding(crate::specs::Refusal::number_of))]
     fn from(refusal: Refusal) -> u32 {
         refusal as u32
+    }
+}
+
+// The number of a check, 0 where nothing is refused.
+#[tactic(auto, unfolding(crate::specs::Refusal::check_number))]
+pub fn check_number(check: Result<(), Refusal>) -> u32
+    ensures { result ≡ check_number check }
+{
+    match check {
+        Ok(()) => 0,
+        Err(refusal) => u32::from(refusal),
     }
 }
 
