@@ -5,11 +5,12 @@ use lib.IntN.{+ℤ_idl}
 use borrow.Author.Tests.{eqb-false}
 use Rattle.lines.specs.Bytes.{until, past}
 use Rattle.lines.specs.Numbers.{decimal, unsigned, negated, plain, value_of, values_of, values_left, first_number}
+use Rattle.lines.specs.Private.{InFront}
 use Rattle.lines.proofs.Bytes.{until_stop, until_end, until_skip, past_stop, past_end, parts_of, split_first}
 use Rattle.lines.proofs.Digits.{word, word_other, Passed, unsigned_wrong, unsigned_long, unsigned_above, low_first, above_some, unsigned-zero, negated_low, signed}
 
 -- the first word, then those after it
-values_first : (words : List ℕ) → values_of words ≡ value_of (until 32 words) ∷ values_left (past 32 words)
+pub values_first : (words : List ℕ) → values_of words ≡ value_of (until 32 words) ∷ values_left (past 32 words)
 unfolding values_of
 values_first words = rw (split_first 32 words) (ap (λ (os : List (Option ℤ)). value_of (until 32 words) ∷ os) (go (past 32 words)))
   where
@@ -20,8 +21,8 @@ values_first words = rw (split_first 32 words) (ap (λ (os : List (Option ℤ)).
 value_none : (words : List ℕ) → value_of (until 32 words) ≡ None → first_number (values_of words) ≡ None
 value_none words e = rw (values_first words, e)
 
-value_some : (words : List ℕ) {v : ℤ} {rest : Option (List ℕ)} → value_of (until 32 words) ≡ Some v → past 32 words ≡ rest → values_of words ≡ Some v ∷ values_left rest
-value_some words e q = rw (values_first words, e, ← q)
+value_some : (words : List ℕ) {v : ℤ} {rest : Option (List ℕ)} → value_of (until 32 words) ≡ Some v → past 32 words ≡ rest → InFront words v rest
+value_some words e q = record { values = rw (values_first words, e, ← q); behind = q }
 
 -- ---- above zero
 
@@ -52,12 +53,12 @@ module _ (words : List ℕ) (h : 0 < length words) (p : 48 < get_or words 0 0) w
         rw (value_above, d, signed r)
 
     -- at a space, and at the end
-    pub above_stop : i < length words → get_or words i 0 ≡ 32 → {rest : List ℕ} → rest ≡ drop (i + 1) words → values_of words ≡ Some (to_z w32 v) ∷ values_of rest
+    pub above_stop : i < length words → get_or words i 0 ≡ 32 → {rest : List ℕ} → rest ≡ drop (i + 1) words → InFront words (to_z w32 v) (Some rest)
     above_stop l e {rest} q =
         let left : past 32 words ≡ Some rest = rw (r.left, q) (past_stop 32 words i l e) in
         value_some words (above_ended (until_stop 32 words i l e)) left
 
-    pub above_end : length words ≤ i → values_of words ≡ Some (to_z w32 v) ∷ []
+    pub above_end : length words ≤ i → InFront words (to_z w32 v) None
     above_end l = value_some words (above_ended (until_end 32 words i l)) (r.left ∙ past_end 32 words i l)
 
 -- ---- zero
@@ -75,12 +76,12 @@ module _ {words tail : List ℕ} {b : ℕ} (w : words ≡ b ∷ tail) (z : b ≡
   unfolding value_of plain unsigned decimal
   zero_alone e = rw (zero_word, e)
 
-  pub zero_stop : 0 < length tail → get_or tail 0 0 ≡ 32 → {rest : List ℕ} → rest ≡ drop 1 tail → values_of words ≡ Some (pos 0) ∷ values_of rest
+  pub zero_stop : 0 < length tail → get_or tail 0 0 ≡ 32 → {rest : List ℕ} → rest ≡ drop 1 tail → InFront words (pos 0) (Some rest)
   zero_stop l e {rest} q =
       let left : past 32 words ≡ Some rest = zero_past ∙ rw q (past_stop 32 tail 0 l e) in
       value_some words (zero_alone (until_stop 32 tail 0 l e)) left
 
-  pub zero_end : length tail ≤ 0 → values_of words ≡ Some (pos 0) ∷ []
+  pub zero_end : length tail ≤ 0 → InFront words (pos 0) None
   zero_end l = value_some words (zero_alone (until_end 32 tail 0 l)) (zero_past ∙ past_end 32 tail 0 l)
 
   pub zero_more : 0 < length tail → (get_or tail 0 0 ≡ 32 → ⊥) → first_number (values_of words) ≡ None
@@ -137,9 +138,9 @@ module _ {words tail : List ℕ} {b : ℕ} (w : words ≡ b ∷ tail) (z : b ≡
     pub below_none : first_number (values_of tail) ≡ None → first_number (values_of words) ≡ None
     below_none e = value_none words (value_below ∙ sign_none (unsigned (until 32 tail)) (sym value_tail ∙ e))
 
-    module _ {v : ℤ} (rest : Option (List ℕ)) (e : values_of tail ≡ Some v ∷ values_left rest) (f : SFits w32 v) where
+    module _ {v : ℤ} (rest : Option (List ℕ)) (e : InFront tail v rest) (f : SFits w32 v) where
       sign : plain (unsigned (until 32 tail)) ≡ Some v
-      sign = sym value_tail ∙ ap first_number e
+      sign = sym value_tail ∙ ap first_number e.values
 
       fits : SFits w32 (neg_ℤ v)
       fits = sign_fits (unsigned (until 32 tail)) sign f
@@ -147,12 +148,12 @@ module _ {words tail : List ℕ} {b : ℕ} (w : words ≡ b ∷ tail) (z : b ≡
       pub below_fits : SFits w32 (pos 0 -ℤ to_z w32 (of_z w32 v))
       below_fits = rw (to_z-of_z f, +ℤ_idl) fits
 
-      pub below_some : values_of words ≡ Some (to_z w32 (of_z w32 (pos 0 -ℤ to_z w32 (of_z w32 v)))) ∷ values_left rest
+      pub below_some : InFront words (to_z w32 (of_z w32 (pos 0 -ℤ to_z w32 (of_z w32 v)))) rest
       unfolding past
       below_some =
           let left : past 32 words ≡ past 32 tail = rw (w, z) refl in
-          let same : values_left (past 32 tail) ≡ values_left rest = cc (values_first tail, e) in
-          rw (to_z-of_z f, +ℤ_idl, to_z-of_z fits, values_first words, value_below, left, same, sign_some (unsigned (until 32 tail)) (λ n s. above_some _ _ p (rw (until_skip 32 tail 0 l (λ q. omega arith)) at s)) sign)
+          rw (to_z-of_z f, +ℤ_idl, to_z-of_z fits)
+          (value_some words (value_below ∙ sign_some (unsigned (until 32 tail)) (λ n s. above_some _ _ p (rw (until_skip 32 tail 0 l (λ q. omega arith)) at s)) sign) (left ∙ e.behind))
 
 -- ---- no number
 

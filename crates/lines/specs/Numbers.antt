@@ -1,7 +1,7 @@
 -- Numbers of a text and of a line (01, "The text": "Numbers have one to five digits, a minus if below zero, no spare leading zero, no minus zero; one space between").
 -- Assumes nothing.
-use Rattle.std.specs.Prelude.{ℕ, ◌+◌, ◌-◌, ◌*◌, cond, not, ◌&&◌, ◌||◌, List, [], ◌∷◌, map, length, ℤ, pos, neg_ℤ, Option, None, Some, ◌==◌, nat_le, slice_index}
-use Rattle.lines.specs.Bytes.{split}
+use Rattle.std.specs.Prelude.{ℕ, ◌+◌, ◌-◌, ◌*◌, cond, not, ◌&&◌, ◌||◌, List, [], ◌∷◌, map, length, drop, ℤ, pos, neg_ℤ, Option, None, Some, ◌==◌, nat_le, slice_index}
+use Rattle.lines.specs.Bytes.{until, split}
 
 -- the value of decimal digits that follow digits of the value acc; none where a byte is no digit
 unfoldable pub decimal : ℕ → List ℕ → Option ℕ
@@ -71,3 +71,18 @@ abbrev pub after_number : List (Option ℤ) → List (Option ℤ)
 after_number [] = []
 after_number (None ∷ os) = None ∷ os
 after_number (Some v ∷ os) = os
+
+-- ---- by its place
+
+-- a number with the place after it, where there is a number
+unfoldable pub number_as : Option ℤ → ℕ → Option (ℤ × ℕ)
+number_as None next = None
+number_as (Some v) next = Some (v, next)
+
+-- what is read at a place of a line: the number of the word that starts there, with the place behind the space that ends it.
+-- The line's end counts as such a space: the place after the last word is one past the length, where nothing is read.
+unfoldable pub number_at : List ℕ → ℕ → Option (ℤ × ℕ)
+number_at line at =
+    cond (nat_le at (length line))
+    (number_as (value_of (until 32 (drop at line))) (at + length (until 32 (drop at line)) + 1))
+    None

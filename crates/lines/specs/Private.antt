@@ -1,10 +1,17 @@
--- What private contracts alone cite: the entry counts of a contents line, one after another.
+-- What private contracts alone cite: a number in front of some words, and the entry counts of a contents line, one after another.
 -- Assumes nothing.
 use Rattle.std.specs.Prelude.{◌≡◌, ℕ, ◌≤◌, cond, List, [], ◌∷◌, ◌++◌, length, sum, ℤ, Option, None, Some, Result, Err}
 use Rattle.figures.specs.declared.Refusal.{Refusal}
 use Rattle.figures.specs.declared.Refusal.TheVariants.{Contents}
 use Rattle.study.specs.Add.{Limits}
+use Rattle.lines.specs.Bytes.{past}
+use Rattle.lines.specs.Numbers.{values_of, values_left}
 use Rattle.lines.specs.Contents.{counts_in, between, in_all}
+
+-- the number v stands in front of the words, and so much behind the space after it
+pub record InFront (words : List ℕ) (v : ℤ) (left : Option (List ℕ)) : Type 0 where
+  pub values : values_of words ≡ Some v ∷ values_left left
+  pub behind : past 32 words ≡ left
 
 -- what entry counts give, all of the right form and as many as announced
 abbrev pub counts_read : Limits → List ℤ → Result (List ℕ) Refusal

@@ -1,6 +1,7 @@
 // The numbers of a line of a study text: one to five digits, a minus if below zero, no spare leading zero, no minus zero.
-ghost use Rattle.std.specs.Prelude.{◌≡◌, ◌↔◌, ◌<◌, [], ◌∷◌, List, Option, ℤ, IsTrue, MatchOption, Some, length, slice_index, option_copied};
-ghost use Rattle.lines.specs.Numbers.{values_of, values_left, first_number, after_number};
+ghost use Rattle.std.specs.Prelude.{◌≡◌, ◌↔◌, ◌<◌, [], List, Option, ℤ, IsTrue, MatchOption, None, length, slice_index, option_copied};
+ghost use Rattle.lines.specs.Numbers.{values_of, values_left, first_number, after_number, number_at};
+ghost use Rattle.lines.specs.Private.{InFront};
 
 use std::marker::Model;
 
@@ -21,7 +22,7 @@ impl<'a> Model for Numbers<'a> {
 #[inline(always)]
 fn above_zero(words: &[u8]) -> Option<(i32, Option<&[u8]>)>
     requires { (0 < length words.now) × (48 < slice_index words.now 0) }
-    ensures { MatchOption result (first_number (values_of words.now) ≡ None) (λ r. values_of words.now ≡ Some r.0 ∷ values_left (option_copied r.1)) }
+    ensures { MatchOption result (first_number (values_of words.now) ≡ None) (λ r. InFront words.now r.0 (option_copied r.1)) }
 {
     let mut value: u32 = 0;
     for (i, byte) in words.iter().enumerate() {
@@ -43,7 +44,7 @@ fn above_zero(words: &[u8]) -> Option<(i32, Option<&[u8]>)>
 // The number at the front of some words, by the bytes that it begins with, and the words after it.
 #[inline(always)]
 fn number_in_front(words: &[u8]) -> Option<(i32, Option<&[u8]>)>
-    ensures { MatchOption result (first_number (values_of words.now) ≡ None) (λ r. values_of words.now ≡ Some r.0 ∷ values_left (option_copied r.1)) }
+    ensures { MatchOption result (first_number (values_of words.now) ≡ None) (λ r. InFront words.now r.0 (option_copied r.1)) }
 {
     let (first, tail) = words.split_first()?;
     if b'0' < *first {
@@ -63,6 +64,21 @@ fn number_in_front(words: &[u8]) -> Option<(i32, Option<&[u8]>)>
             Some((-value, rest))
         }
         _ => None,
+    }
+}
+
+// The number that starts at a place of a line, and the place behind the space that ends it: one past the length for the line's last. For
+// callers that keep places; what walks a line is `Numbers`.
+pub fn number_at(line: &[u8], at: usize) -> Option<(i32, usize)>
+    ensures { result ≡ number_at line.now at }
+{
+    if line.len() < at {
+        return None;
+    }
+    let (value, rest) = number_in_front(&line[at..])?;
+    match rest {
+        Some(left) => Some((value, line.len() - left.len())),
+        None => Some((value, line.len() + 1)),
     }
 }
 
