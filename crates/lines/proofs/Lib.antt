@@ -5,3 +5,4 @@ pub mod Values
 pub mod Places
 pub mod Counted
 pub mod Entries
+pub mod Lent

@@ -1,6 +1,6 @@
 -- The contents, a text's first line (01, "The text": "the segment count (1 to 24), then each segment's entry count (0 to 96), in all 1 to 96"), over any limits.
 -- Assumes nothing.
-use Rattle.std.specs.Prelude.{ℕ, Bool, false, cond, ◌&&◌, List, [], ◌∷◌, length, sum, ℤ, pos, negsuc, Option, None, Some, Result, Ok, Err, ◌==◌, nat_le}
+use Rattle.std.specs.Prelude.{◌≡◌, ℕ, ◌≤◌, Bool, false, cond, ◌&&◌, List, [], ◌∷◌, length, take, sum, ℤ, pos, negsuc, Option, None, Some, Result, Ok, Err, ◌==◌, nat_le}
 use Rattle.std.specs.Result.{result_map_both}
 use Rattle.arrayvec.specs.ArrayVec.{ArrayVec}
 use Rattle.figures.specs.declared.Refusal.{Refusal}
@@ -51,3 +51,21 @@ limits segments entries = record { segments = segments; entries = entries }
 -- the counts that were read, as a list
 abbrev pub counts_of : Result (ArrayVec ℕ) Refusal → Result (List ℕ) Refusal
 counts_of r = result_map_both (λ (v : ArrayVec ℕ). v.items) (λ (f : Refusal). f) r
+
+-- ---- read into lent counts
+
+-- how many counts an answer says there are
+abbrev pub count_of : Result ℕ Refusal → ℕ
+count_of (Ok n) = n
+count_of (Err r) = 0
+
+-- what an answer says, of the list that its counts are the first of
+abbrev pub read_as : Result ℕ Refusal → List ℕ → Result (List ℕ) Refusal
+read_as (Ok n) list = Ok (take n list)
+read_as (Err r) list = Err r
+
+-- as many segments as counts are lent, and so many entries: the counts read stand first; what the places after them hold is left open
+pub record ContentsRead (entries : ℕ) (line before after : List ℕ) (r : Result ℕ Refusal) : Type 0 where
+  pub size : length after ≡ length before
+  pub room : count_of r ≤ length after
+  pub is : read_as r after ≡ contents_of (limits (length before) entries) line
