@@ -1,12 +1,12 @@
 -- Both periods' levels written side by side, entry by entry: what the cells hold after so many entries, and after all.
 -- Assumes nothing.
-use mathlib.Core.Path.{◌≡◌, refl, sym, ap, ap₂, ◌∙◌}
+use mathlib.Core.Path.{◌≡◌, refl, sym, ap, ◌∙◌}
 use mathlib.Core.List.{List, ◌++◌, append-nil}
 use native.Mathlib.Nat.{add-zero}
 use Prim.Native.Nat.{ℕ, ◌+◌, ◌<◌, ◌≤◌}
 use native.Mathlib.Omega.{arith}
 use lib.IntN.{ℤ}
-use lib.ListN.{length, get_or, set, take, drop, length-append, length-map, get_or-map, length-take, length-set}
+use lib.ListN.{length, get_or, set, take, drop, length-append, get_or-map, length-take, length-set}
 use lib.Seq.{paste, take-set-lt, take_at, drop_at}
 use Rattle.std.proofs.lemmas.List.{set-append_left, drop-set-lt, take-append-drop}
 use Rattle.std.proofs.lemmas.List.Edits.{paste_more, length-paste}
@@ -15,7 +15,7 @@ use Rattle.propagation.specs.declared.Propagation.{Propagation}
 use Rattle.study.specs.declared.Entry.{Entry}
 use Rattle.study.specs.Plan.{no_entry}
 use Rattle.request.specs.Request.{cells_from, cell_from, tenths_of}
-use Rattle.request.proofs.Answers.{both_laid}
+use Rattle.request.proofs.Answers.{both_laid, many_cells}
 
 -- none pasted, and a cell before those that were
 paste-none : {A : Type 0} (base s : List A) (at : ℕ) → paste base at s 0 ≡ base
@@ -42,8 +42,8 @@ module _ (added : List Propagation) (es : List Entry) (before : List ℤ) where
     laying_more {k} {cells} {e} {d} {n} h a s f g =
         let days = cells_from Day added es in
         let nights = cells_from Night added es in
-        let many : length days ≡ length es = length-map es (cell_from Day (tenths_of added)) in
-        let much : length nights ≡ length es = length-map es (cell_from Night (tenths_of added)) in
+        let many : length days ≡ length es = many_cells added es Day in
+        let much : length nights ≡ length es = many_cells added es Night in
         let day : d ≡ get_or days k (cell_from Day (tenths_of added) no_entry) = f ∙ ap (cell_from Day (tenths_of added)) (sym s) ∙ sym (get_or-map (cell_from Day (tenths_of added)) es k no_entry) in
         let night : n ≡ get_or nights k (cell_from Night (tenths_of added) no_entry) = g ∙ ap (cell_from Night (tenths_of added)) (sym s) ∙ sym (get_or-map (cell_from Night (tenths_of added)) es k no_entry) in
         let whole : length (paste before 0 days k) ≡ length before = length-paste before 0 days k (omega arith) (omega (arith, many)) in
@@ -59,10 +59,10 @@ module _ (added : List Propagation) (es : List Entry) (before : List ℤ) where
               ∙ rw night (paste_more (paste before 0 days (k + 1)) (length es) nights k _ (omega (arith, wider)) (omega (arith, much)));
         }
 
-    pub laying_all : {k : ℕ} {cells : List ℤ} → k ≡ length es → Laying k cells → cells ≡ cells_from Day added es ++ (cells_from Night added es ++ drop (length es + length es) before)
+    pub laying_all : {k : ℕ} {cells : List ℤ} → k ≡ length es → Laying k cells → cells ≡ cells_from Day added es ++ (cells_from Night added es ++ drop (length (cells_from Day added es) + length (cells_from Night added es)) before)
     laying_all {k} {cells} e a =
-        let many : length (cells_from Day added es) ≡ length es = length-map es (cell_from Day (tenths_of added)) in
-        let much : length (cells_from Night added es) ≡ length es = length-map es (cell_from Night (tenths_of added)) in
+        let many : length (cells_from Day added es) ≡ length es = many_cells added es Day in
+        let much : length (cells_from Night added es) ≡ length es = many_cells added es Night in
         let days = cells_from Day added es in
         let nights = cells_from Night added es in
         both_laid days nights before refl
@@ -70,15 +70,14 @@ module _ (added : List Propagation) (es : List Entry) (before : List ℤ) where
         ∙ ap (λ (m : ℕ). paste (paste before 0 days m) (length es) nights k) (e ∙ sym many)
         ∙ ap (λ (m : ℕ). paste (paste before 0 days (length days)) m nights k) (sym many)
         ∙ ap (λ (m : ℕ). paste (paste before 0 days (length days)) (length days) nights m) (e ∙ sym much))
-        ∙ ap (λ (m : ℕ). days ++ (nights ++ drop m before)) (ap₂ (λ (m j : ℕ). m + j) many much)
 
   -- each period's part of them
   module _ {cells : List ℤ} (rest : List ℤ) (all : cells ≡ cells_from Day added es ++ (cells_from Night added es ++ rest)) where
     pub day_part : take (length es) cells ≡ cells_from Day added es
-    day_part = ap (take (length es)) all ∙ take_at (cells_from Day added es) (cells_from Night added es ++ rest) (length es) (length-map es (cell_from Day (tenths_of added)))
+    day_part = ap (take (length es)) all ∙ take_at (cells_from Day added es) (cells_from Night added es ++ rest) (length es) (many_cells added es Day)
 
     pub night_part : (n : ℕ) → n ≡ length es → take n (drop (length es) cells) ≡ cells_from Night added es
     night_part n e =
         ap (λ (cs : List ℤ). take n (drop (length es) cs)) all
-        ∙ ap (take n) (drop_at (cells_from Day added es) (cells_from Night added es ++ rest) (length es) (length-map es (cell_from Day (tenths_of added))))
-        ∙ take_at (cells_from Night added es) rest n (length-map es (cell_from Night (tenths_of added)) ∙ sym e)
+        ∙ ap (take n) (drop_at (cells_from Day added es) (cells_from Night added es ++ rest) (length es) (many_cells added es Day))
+        ∙ take_at (cells_from Night added es) rest n (many_cells added es Night ∙ sym e)

@@ -45,14 +45,19 @@ pub byte_is : (b : Bool) → from_bool b ≡ cond b 1 0
 byte_is true = refl
 byte_is false = refl
 
--- as the code works it out
-pub period_from_lem : (p : Period) (levels : List ℤ) {rows : ℕ} {places : List ℕ} {close : List Bool} {t : Total} {count one : ℕ} {met : Bool} → rows ≡ min (length levels) ours.entries → t ≡ total_of (heard (take ours.entries (take rows levels)))
-    → CloseSegments (take rows levels) places close count → one ≡ cond t.close 1 0 → met ≡ met_by p t.level → ◌≡◌ {A = PeriodResult} (record { level = t.level; close = count + one; met = met }) (period_from p levels places close)
-unfolding period_from result_from
-period_from_lem p levels {rows} e total count o m =
+-- as the code works it out, from the total and the close segments
+pub result_from_lem : (p : Period) (count : ℕ) {t total : Total} {one : ℕ} {met : Bool} → t ≡ total → one ≡ cond t.close 1 0 → met ≡ met_by p t.level → ◌≡◌ {A = PeriodResult} (record { level = t.level; close = count + one; met = met }) (result_from p total count)
+unfolding result_from
+result_from_lem p count e o m = rw (o, m, e)
+
+-- and both of these from the levels
+pub period_from_lem : (p : Period) (levels : List ℤ) {rows : ℕ} {places : List ℕ} {close : List Bool} {count : ℕ} {r : PeriodResult} → rows ≡ min (length levels) ours.entries → CloseSegments (take rows levels) places close count
+    → r ≡ result_from p (total_of (heard (take ours.entries (take rows levels)))) count → r ≡ period_from p levels places close
+unfolding period_from
+period_from_lem p levels {rows} e count is =
     let first : take rows levels ≡ take ours.entries levels = ap (λ (k : ℕ). take k levels) (e ∙ min_comm (length levels) ours.entries) ∙ take_min ours.entries levels in
     let again : take ours.entries (take ours.entries levels) ≡ take ours.entries levels = take_all ours.entries (take ours.entries levels) (omega (arith, length-take ours.entries levels)) in
-    rw (o, m, total, count.is, first, again)
+    is ∙ rw (count.is, first, again)
 
 module _ (p : Period) (plan : Plan) where
   pub own_total_lem : total_mark_in p (own_marks plan) ≡ total_mark (figures (levels_of p plan (ground_marks plan)))

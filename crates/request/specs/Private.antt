@@ -15,3 +15,7 @@ pub record CloseSegments (cells : List ℤ) (places : List ℕ) (close : List Bo
 -- some entry of segment k has a level, as a search through the entries finds it
 abbrev pub hears : ℕ → List Entry → List ℤ → Bool
 hears k es cells = list_any (λ (p : Entry × ℤ). eqb p.0.segment k && le_z (negsuc 1999) p.1) (zip es cells)
+
+-- as a search through the places of the entries' segments finds it
+abbrev pub hears_among : ℕ → List ℕ → List ℤ → Bool
+hears_among k places cells = list_any (λ (p : ℕ × ℤ). eqb p.0 k && le_z (negsuc 1999) p.1) (zip places cells)

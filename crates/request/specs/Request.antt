@@ -26,19 +26,19 @@ use Rattle.request.specs.Levels.{Marks, levels_of, cell_of, result_from, result_
 abbrev pub cells_needed : ℕ → ℕ
 cells_needed t = t + t
 
--- of so many entries with n working cells: 23 without an entry, then 24 with too few cells
-unfoldable pub request_check : ℕ → ℕ → Check
-request_check entries n = unless (ltb 0 entries) NoEntry (unless (leb (cells_needed entries) n) FewCells (Ok tt))
+-- of so many entries that need so many of n working cells: 23 without an entry, then 24 with too few cells
+unfoldable pub request_check : ℕ → ℕ → ℕ → Check
+request_check entries needed n = unless (ltb 0 entries) NoEntry (unless (leb needed n) FewCells (Ok tt))
 
 -- the same by 01's numbers
-unfoldable pub request_number : ℕ → ℕ → ℕ
-request_number entries n = lowest_number ((23, ltb 0 entries) ∷ (24, leb (cells_needed entries) n) ∷ [])
+unfoldable pub request_number : ℕ → ℕ → ℕ → ℕ
+request_number entries needed n = lowest_number ((23, ltb 0 entries) ∷ (24, leb needed n) ∷ [])
 
 unfoldable pub levels_check : Plan → ℕ → Check
-levels_check plan n = request_check (length plan.entries) n
+levels_check plan n = request_check (length plan.entries) (cells_needed (length plan.entries)) n
 
 unfoldable pub levels_number : Plan → ℕ → ℕ
-levels_number plan n = request_number (length plan.entries) n
+levels_number plan n = request_number (length plan.entries) (cells_needed (length plan.entries)) n
 
 -- the day's levels, then the night's, in entry order, then what further cells held; on a refusal the cells as they were
 unfoldable pub laid : Check → List ℤ → List ℤ → List ℤ → List ℤ
@@ -81,7 +81,7 @@ unfoldable pub result_in : Period → Answer → PeriodResult
 result_in p (Ok both) = in_period p both
 result_in p (Err r) = silent_result
 
--- ---- the same from what each segment adds and the entries, whatever made them
+-- ---- the same from levels as computed: the cell of each entry by day and by night, the place of its segment, and the segments' close marks
 
 -- an entry's cells, from what its segment adds
 abbrev pub cell_in : Period → ℤ → Train → ℤ
@@ -131,13 +131,13 @@ TotalAllowed cells = let levels = heard (take ours.entries cells) in TotalMark l
 unfoldable pub written : List ℤ → List ℤ → ℕ → List ℤ
 written levels cells at = cond (leb (at + length levels) (length cells)) (take at cells ++ levels ++ drop (at + length levels) cells) cells
 
--- a period's result, from what each segment adds and the entries
-abbrev pub result_from_added : Period → List Propagation → List Entry → PeriodResult
-result_from_added p added es = period_from p (cells_from p added es) (places_of es) (marks_of added)
+-- the check of so many cells
+abbrev pub check_from : List ℤ → List ℤ → ℕ → Check
+check_from day night n = request_check (length day) (length day + length night) n
 
 -- the answer, the cells afterwards, and that 01 allows the mark of each total
-pub record AnsweredFrom (added : List Propagation) (es : List Entry) (before after : List ℤ) (r : Answer) : Type 0 where
-  pub cells : after ≡ laid (request_check (length es) (length before)) (cells_from Day added es) (cells_from Night added es) before
-  pub answer : r ≡ answer_of (request_check (length es) (length before)) (result_from_added Day added es) (result_from_added Night added es)
-  pub day : TotalAllowed (cells_from Day added es)
-  pub night : TotalAllowed (cells_from Night added es)
+pub record AnsweredFrom (ds ns : List ℤ) (places : List ℕ) (close : List Bool) (before after : List ℤ) (r : Answer) : Type 0 where
+  pub cells : after ≡ laid (check_from ds ns (length before)) ds ns before
+  pub answer : r ≡ answer_of (check_from ds ns (length before)) (period_from Day ds places close) (period_from Night ns places close)
+  pub day : TotalAllowed ds
+  pub night : TotalAllowed ns

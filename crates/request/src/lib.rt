@@ -1,13 +1,17 @@
 // The request for levels: each entry's level in the working cells, and both periods' results.
 #![tactic(auto)]
 
-ghost use Rattle.std.specs.Prelude.{◌≡◌, ◌*◌, ◌-◌, pos, length, get_or};
+ghost use Rattle.std.specs.Prelude.{◌≡◌, ◌+◌, ◌*◌, ◌-◌, ◌≤◌, pos, length, get_or, take};
 ghost use Rattle.emission.specs.Emission.{raised};
 ghost use Rattle.emission.specs.Results.{SmallLevel};
+ghost use Rattle.energy.specs.Total.{heard};
+ghost use Rattle.energy.specs.Mark.{total_of};
+ghost use Rattle.figures.specs.declared.Period.TheVariants.{Day, Night};
 ghost use Rattle.figures.specs.Refusal.{check_number, check_of};
-ghost use Rattle.request.specs.Levels.{cell_of, limit_of, met_by};
-ghost use Rattle.request.specs.Request.{Answered, AnsweredFrom, request_number, levels_number, entry_cells, places_of, tenths_of, marks_of, period_from, TotalAllowed, first_cell, written};
-ghost use Rattle.request.specs.Private.{CloseSegments, hears};
+ghost use Rattle.study.specs.Add.{ours};
+ghost use Rattle.request.specs.Levels.{cell_of, limit_of, met_by, result_from};
+ghost use Rattle.request.specs.Request.{Answered, AnsweredFrom, cells_needed, cells_from, request_number, levels_number, entry_cells, places_of, tenths_of, marks_of, period_from, TotalAllowed, first_cell, written};
+ghost use Rattle.request.specs.Private.{CloseSegments, hears, hears_among};
 
 use arrayvec::ArrayVec;
 use decibel::Level;
@@ -69,6 +73,16 @@ fn sounds(place: usize, entries: &[Entry], levels: &[i32]) -> bool
     entries.iter().zip(levels).any(|(entry, level)| entry.segment == place && LEAST_LEVEL <= *level)
 }
 
+// Whether it has one, by the places of the entries' segments.
+fn sounds_among(place: usize, places: &[usize], levels: &[i32]) -> bool
+    ensures { result ≡ hears_among place places.now levels.now }
+{
+    places
+        .iter()
+        .zip(levels)
+        .any(|(of, level)| *of == place && LEAST_LEVEL <= *level)
+}
+
 // How many segments are marked as close and heard in the levels of a period.
 fn close_segments(levels: &[i32], entries: &[Entry], added: &[Propagation]) -> u32
     ensures { CloseSegments levels.now (places_of entries.now) (marks_of added.now) result }
@@ -78,6 +92,18 @@ fn close_segments(levels: &[i32], entries: &[Entry], added: &[Propagation]) -> u
         .enumerate()
         .take(MOST_SEGMENTS)
         .filter(|(k, part)| part.close && sounds(*k, entries, levels))
+        .count() as u32
+}
+
+// How many are, by the places of the entries' segments and the segments' close marks.
+fn close_among(levels: &[i32], places: &[usize], close: &[bool]) -> u32
+    ensures { CloseSegments levels.now places.now close.now result }
+{
+    close
+        .iter()
+        .enumerate()
+        .take(MOST_SEGMENTS)
+        .filter(|(k, marked)| **marked && sounds_among(*k, places, levels))
         .count() as u32
 }
 
@@ -102,6 +128,19 @@ pub fn is_met(period: Period, level: Level) -> bool
     }
 }
 
+// A period's result from its levels, of which no more than 96 are heard, and how many close segments are heard in them.
+fn result_from(period: Period, levels: &[i32], close: u32) -> PeriodResult
+    requires { close ≤ ours.segments }
+    ensures { result ≡ result_from period (total_of (heard (take ours.entries levels.now))) close }
+{
+    let total = energy::total_of(levels);
+    PeriodResult {
+        level: total.level,
+        close: close + u32::from(total.close),
+        met: is_met(period, total.level),
+    }
+}
+
 // A period's result from levels as computed, the entries, and what their segments add, for any lists.
 pub fn period_of(
     period: Period,
@@ -113,12 +152,15 @@ pub fn period_of(
     ensures allowed { TotalAllowed levels.now }
 {
     let heard = &levels[..levels.len().min(MOST_ENTRIES)];
-    let total = energy::total_of(heard);
-    PeriodResult {
-        level: total.level,
-        close: close_segments(heard, entries, added) + u32::from(total.close),
-        met: is_met(period, total.level),
-    }
+    result_from(period, heard, close_segments(heard, entries, added))
+}
+
+// A period's result from levels as computed, the places of their entries' segments, and the segments' close marks.
+fn period_among(period: Period, levels: &[i32], places: &[usize], close: &[bool]) -> PeriodResult
+    ensures { result ≡ period_from period levels.now places.now close.now }
+{
+    let heard = &levels[..levels.len().min(MOST_ENTRIES)];
+    result_from(period, heard, close_among(heard, places, close))
 }
 
 // Writes the levels into the cells from a place on; without room for all of them the cells stay as they were.
@@ -145,6 +187,35 @@ pub fn first_cell(period: Period, entries: usize) -> usize
     }
 }
 
+// Both periods' results from levels as computed: each entry's by day and by night, the place of its segment, and the segments' close
+// marks. The levels are written into the first cells; on a refusal the cells are as they were.
+pub fn levels_from(
+    day: &[i32],
+    night: &[i32],
+    places: &[usize],
+    close: &[bool],
+    cells: &mut [i32],
+) -> Result<Periods<PeriodResult>, Refusal>
+    ensures answered { AnsweredFrom day.now night.now places.now close.now cells.old cells.new result }
+    ensures number { check_number (check_of result) ≡ request_number (length day.now) (length day.now + length night.now) (length cells.old) }
+{
+    if day.is_empty() {
+        return Err(Refusal::NoEntry);
+    }
+    if cells.len() < day.len() {
+        return Err(Refusal::FewCells);
+    }
+    if cells.len() - day.len() < night.len() {
+        return Err(Refusal::FewCells);
+    }
+    write_levels(day, cells, 0);
+    write_levels(night, cells, day.len());
+    Ok(Periods {
+        day: period_among(Period::Day, day, places, close),
+        night: period_among(Period::Night, night, places, close),
+    })
+}
+
 // Both periods' results from what each segment adds and the entries, whose levels are written into the first cells; on a refusal the
 // cells are as they were. The two are lists and no struct of them, as both callers hold them: a struct would be made for this call alone.
 pub fn levels_by(
@@ -152,8 +223,8 @@ pub fn levels_by(
     entries: &[Entry],
     cells: &mut [i32],
 ) -> Result<Periods<PeriodResult>, Refusal>
-    ensures answered { AnsweredFrom added.now entries.now cells.old cells.new result }
-    ensures number { check_number (check_of result) ≡ request_number (length entries.now) (length cells.old) }
+    ensures answered { AnsweredFrom (cells_from Day added.now entries.now) (cells_from Night added.now entries.now) (places_of entries.now) (marks_of added.now) cells.old cells.new result }
+    ensures number { check_number (check_of result) ≡ request_number (length entries.now) (cells_needed (length entries.now)) (length cells.old) }
 {
     let total = entries.len();
     if total == 0 {

@@ -3,22 +3,23 @@ use Rattle.std.proofs.Common.{arith, rules, refl, ◌∙◌, ap, ℤ, pos, get_o
 use Rattle.decibel.proofs.Words.{back}
 use Rattle.figures.specs.declared.Periods.{Periods}
 use Rattle.figures.specs.declared.Period.TheVariants.{Day, Night}
+use Rattle.figures.specs.declared.Refusal.TheVariants.{NoEntry, FewCells}
 use Rattle.study.specs.Plan.{no_entry}
-use Rattle.request.specs.Request.{entry_cells, tenths_of, marks_of, places_of, period_from}
-use Rattle.request.proofs.Answers.{no_entries, few_cells, enough_cells, refused_from, accepted_from, from_number}
+use Rattle.request.specs.Request.{entry_cells, cells_from, tenths_of, marks_of, places_of, period_from}
+use Rattle.request.proofs.Answers.{no_entries, few_cells, enough_cells, laid_from, entries_check, entries_refused, entries_number}
 use Rattle.request.proofs.Laying.{laying_none, laying_more, laying_all, day_part, night_part}
 use Rattle.request.proofs.Cells.{back16}
 use Rattle.request.proofs.levels_by.Goals as goal
 
 pub returns-then-total-eq0 : goal.returns-then-total-eq0
 returns-then-total-eq0 c =
-    let a = refused_from c.args.added.now c.args.entries.now c.args.cells.now (no_entries _ _ c.if-total-eq0.true) in
-    record { answered = a; number = from_number _ _ _ a }
+    let a = entries_refused c.args.added.now c.args.entries.now c.args.cells.now NoEntry (no_entries _ _ _ c.if-total-eq0.true) in
+    record { answered = a; number = entries_number _ _ _ a }
 
 pub returns-then-cells-total : goal.returns-then-cells-total
 returns-then-cells-total c =
-    let a = refused_from c.args.added.now c.args.entries.now c.args.cells.now (few_cells _ _ c.if-total-eq0.false (omega (arith, c.if-cells-total.true))) in
-    record { answered = a; number = from_number _ _ _ a }
+    let a = entries_refused c.args.added.now c.args.entries.now c.args.cells.now FewCells (few_cells _ _ _ c.if-total-eq0.false (omega (arith, c.if-cells-total.true))) in
+    record { answered = a; number = entries_number _ _ _ a }
 
 pub loop-at-init : goal.loop-at-init
 loop-at-init c = laying_none _ _ _ (omega (arith, c.if-cells-total.false))
@@ -41,9 +42,9 @@ returns c =
     let before = c.args.cells.now in
     let room : length es + length es ≤ length before = omega (arith, c.if-cells-total.false) in
     let all = laying_all added es before room (omega (arith, c.loop-at-test.false, c.loop-at.auto.at-end)) c.loop-at.invariant in
-    let rest = drop (length es + length es) before in
+    let rest = drop (length (cells_from Day added es) + length (cells_from Night added es)) before in
     let answer =
-    accepted_from added es before (enough_cells _ _ c.if-total-eq0.false room) all
+    laid_from (cells_from Day added es) (cells_from Night added es) (places_of es) (marks_of added) before (entries_check added es before ∙ enough_cells _ _ _ c.if-total-eq0.false room) all
     (c.period_of.ensures.is ∙ ap (λ (cells : List ℤ). period_from Day cells (places_of es) (marks_of added)) (day_part added es before rest all))
     (c.period_of-2.ensures.is ∙ ap (λ (cells : List ℤ). period_from Night cells (places_of es) (marks_of added)) (night_part added es before rest all _ (omega arith))) in
-    record { answered = answer; number = from_number _ _ _ answer }
+    record { answered = answer; number = entries_number added es before answer }
