@@ -1,3 +1,4 @@
+pub mod Held
 pub mod Additions
 pub mod Runs
 pub mod Plans

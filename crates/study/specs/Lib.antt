@@ -1,3 +1,4 @@
 pub mod Plan
+pub mod Held
 pub mod Add
 pub mod Run

@@ -2,12 +2,13 @@
 #![tactic(auto)]
 
 ghost use Rattle.std.specs.Prelude.{◌≡◌, ◌≤◌, length, ⊤};
+ghost use Rattle.std.proofs.Common.{arith, length-take-le};
 ghost use Rattle.figures.specs.Refusal.{check_number, check_of};
-ghost use Rattle.study.specs.Plan.{Plan, empty_plan};
+ghost use Rattle.study.specs.Plan.{Plan, empty_plan, no_segment, no_entry};
+ghost use Rattle.study.specs.Held.{Held, held_by, laid_out};
 ghost use Rattle.study.specs.Add.{ours, segment_limit, segment_number, segment_judgement, SegmentMarked, train_limit, train_answer, train_number, added, add_segment, add_train};
 ghost use Rattle.study.specs.Run.{run_from, listed};
 
-use arrayvec::ArrayVec;
 use figures::{Refusal, Segment, Train};
 use propagation::Propagation;
 use std::alloc::AllocError;
@@ -72,18 +73,34 @@ pub fn train_answer(count: usize, total: usize, train: Train) -> Result<(), Refu
     figures::ranges::train_check(train)
 }
 
-// Segments and train entries, up to so many, seen as its plan. Nothing but this crate makes or changes one.
-#[derive(Drop)]
+// Segments and train entries, up to so many, seen as its plan. Nothing but this crate makes or changes one. Two arrays, each with how many of
+// its places are taken, and no lists of fixed capacity as the kit's `ArrayVec`, since a study can be copied and those can't. A place not
+// taken holds zeros, so that a plan gives its study back.
 pub struct Study {
-    segments: ArrayVec<Segment, MOST_SEGMENTS>,
-    entries: ArrayVec<Entry, MOST_ENTRIES>,
+    segments: [Segment; MOST_SEGMENTS],
+    count: usize,
+    entries: [Entry; MOST_ENTRIES],
+    total: usize,
 }
 
 impl Model for Study {
     ghost Value = { Plan };
 
-    ghost view = { λ s. record { segments = s.segments.items; entries = s.entries.items } };
+    ghost view = { λ s. record { segments = held_by s.count s.segments; entries = held_by s.total s.entries } };
+
+    ghost invariant = { λ s. Held ours.segments no_segment s.count s.segments × Held ours.entries no_entry s.total s.entries };
+
+    ghost inverse = { λ p. record { segments = laid_out ours.segments no_segment p.segments; count = length p.segments; entries = laid_out ours.entries no_entry p.entries; total = length p.entries } };
+
+    ghost inverse_ok = { λ s held i. record {
+      segments = held.0.rest i;
+      count = length-take-le s.count s.segments (omega (arith, held.0.room, held.0.whole)) i;
+      entries = held.1.rest i;
+      total = length-take-le s.total s.entries (omega (arith, held.1.room, held.1.whole)) i;
+    } };
 }
+
+impl Copy for Study {}
 
 // A copy is the same plan, and making one never fails. Not derived: the contract of a derived `clone` would speak of the private fields.
 impl Clone for Study {
@@ -92,10 +109,7 @@ impl Clone for Study {
     ghost is_infallible = { λ _. ⊤ };
 
     fn clone(&self) -> Result<Self, AllocError> {
-        Ok(Study {
-            segments: self.segments.clone()?,
-            entries: self.entries.clone()?,
-        })
+        Ok(*self)
     }
 }
 
@@ -105,8 +119,10 @@ impl Study {
         ensures { result ≡ empty_plan }
     {
         Study {
-            segments: ArrayVec::new(),
-            entries: ArrayVec::new(),
+            segments: [Segment::default(); MOST_SEGMENTS],
+            count: 0,
+            entries: [Entry::default(); MOST_ENTRIES],
+            total: 0,
         }
     }
 
@@ -115,7 +131,7 @@ impl Study {
         ensures is { result.now ≡ self.now.segments }
         ensures most { length result.now ≤ ours.segments }
     {
-        self.segments.as_slice()
+        &self.segments[..self.count]
     }
 
     // Its train entries in order, each with the place of its segment.
@@ -123,47 +139,68 @@ impl Study {
         ensures is { result.now ≡ self.now.entries }
         ensures most { length result.now ≤ ours.entries }
     {
-        self.entries.as_slice()
+        &self.entries[..self.total]
     }
 
     // Adds the segment after the last, or refuses it and leaves the study as it was.
-    #[tactic(auto, unfolding(crate::specs::Add::add_segment, crate::specs::Add::segment_answer, crate::specs::Add::answer, figures::specs::Refusal::first_refused), using(crate::proofs::Additions::segments_below, crate::proofs::Additions::segment_answered))]
+    #[tactic(auto, unfolding(crate::specs::Add::add_segment, crate::specs::Add::segment_answer, crate::specs::Add::answer, figures::specs::Refusal::first_refused), using(crate::proofs::Additions::segments_below, crate::proofs::Additions::segment_answered, crate::proofs::Held::held_length, crate::proofs::Held::one_more, crate::proofs::Held::more_held))]
     pub fn add_segment(&mut self, segment: Segment) -> Result<(), Refusal>
         ensures is { added result self.new ≡ add_segment ours self.old segment }
         ensures number { check_number result ≡ segment_number ours (length self.old.segments) segment }
     {
-        segment_limit(self.segments.len())?;
+        let at = self.count;
+        segment_limit(at)?;
         propagation::segment_check(segment)?;
-        self.segments.push(segment);
+        self.segments[at] = segment;
+        self.count = at + 1;
         Ok(())
     }
 
     // Adds the train at the last segment, or refuses it and leaves the study as it was.
-    #[tactic(auto, unfolding(crate::specs::Add::add_train, crate::specs::Add::answer), using(crate::proofs::Additions::train_taken))]
+    #[tactic(auto, unfolding(crate::specs::Add::add_train, crate::specs::Add::answer), using(crate::proofs::Additions::train_taken, crate::proofs::Held::held_length, crate::proofs::Held::one_more, crate::proofs::Held::more_held))]
     pub fn add_train(&mut self, train: Train) -> Result<(), Refusal>
         ensures is { added result self.new ≡ add_train ours self.old train }
         ensures number { check_number result ≡ train_number ours (length self.old.segments) (length self.old.entries) train }
     {
-        let count = self.segments.len();
-        train_answer(count, self.entries.len(), train)?;
-        self.entries.push(Entry {
+        let count = self.count;
+        let at = self.total;
+        train_answer(count, at, train)?;
+        self.entries[at] = Entry {
             segment: count - 1,
             train,
-        });
+        };
+        self.total = at + 1;
         Ok(())
     }
 
-    // Adds what another study holds after its own: each segment, then the trains of its entries. What is refused adds nothing.
-    pub fn append(&mut self, other: &Study)
-        ensures { self.new ≡ run_from ours self.old (listed other.now) }
+    // Adds what lists hold after what the study has: each segment, then the trains of its entries. What is refused adds nothing, and an entry
+    // at no segment of the lists is left out.
+    pub fn extend(&mut self, segments: &[Segment], entries: &[Entry])
+        ensures { self.new ≡ run_from ours self.old (listed (record { segments = segments.now; entries = entries.now })) }
     {
-        for (k, segment) in other.segments().iter().enumerate() {
+        for (k, segment) in segments.iter().enumerate() {
             let _ = self.add_segment(*segment);
-            for entry in other.entries() {
+            for entry in entries {
                 if entry.segment == k {
                     let _ = self.add_train(entry.train);
                 }
             }
         }
     }
+
+    // Likewise what another study holds.
+    pub fn append(&mut self, other: &Study)
+        ensures { self.new ≡ run_from ours self.old (listed other.now) }
+    {
+        self.extend(other.segments(), other.entries());
+    }
+}
+
+// The study with the additions of these lists after its own.
+pub fn extended(start: Study, segments: &[Segment], entries: &[Entry]) -> Study
+    ensures { result ≡ run_from ours start (listed (record { segments = segments.now; entries = entries.now })) }
+{
+    let mut study = start;
+    study.extend(segments, entries);
+    study
 }
