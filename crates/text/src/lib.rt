@@ -5,7 +5,7 @@ ghost use Rattle.std.specs.Prelude.{◌≡◌, length, MatchResult};
 ghost use Rattle.figures.specs.Refusal.{check_number};
 ghost use Rattle.study.specs.Add.{ours};
 ghost use Rattle.text.specs.Text.{segment_kind, train_kind, refused_at, lines_of, read_from, read_text};
-ghost use Rattle.text.specs.Answer.{reading_of, check_at, text_number, text_answer_number, TextAnswered};
+ghost use Rattle.text.specs.Answer.{reading_of, plan_in, check_at, text_number, text_answer_number, TextAnswered};
 ghost use Rattle.text.specs.Private.{body_reading, NextLine, NoLine, LineRefused, Took, SegmentTaken, SegmentFault, TrainTaken, TrainFault, Answers};
 
 use arrayvec::ArrayVec;
@@ -156,6 +156,14 @@ pub fn read_text(text: &[u8]) -> Result<Study, Fault>
 {
     let (counts, rest) = read_opening(text)?;
     read_lines(rest, counts.as_slice())
+}
+
+// The study that is read from a text: the empty one where it is refused.
+#[tactic(auto, unfolding(crate::specs::Answer::reading_of, crate::specs::Text::accepted_with, crate::specs::Text::refused_at))]
+pub fn study_of(text: &[u8]) -> Study
+    ensures { result ≡ plan_in text.now }
+{
+    read_text(text).unwrap_or_else(|_| Study::new())
 }
 
 // The next line is a segment's, after so many segments: what the segment adds to the level of its entries, and what follows.
