@@ -1,30 +1,91 @@
--- A segment that is heard by the cells of its entries, as a search through them finds it, and how many of those are marked as close.
+-- Which segments are heard by the cells of their entries, and how many of those are marked as close.
 -- Assumes nothing.
 use mathlib.Core.Path.{◌≡◌, refl, sym, ap, ◌∙◌, subst}
-use mathlib.Core.Bool.{Bool, true, false, cond, ◌&&◌, ◌||◌}
+use mathlib.Core.Bool.{Bool, true, false, cond, ◌&&◌, ◌||◌, or-false}
 use mathlib.Core.List.{List, [], ◌∷◌, map}
-use Prim.Native.Nat.{ℕ, zero, suc, ◌+◌}
+use Prim.Native.Nat.{ℕ, zero, suc, ◌+◌, ◌<◌, min}
+use native.Mathlib.Nat.{not-suc-le-zero, le_of_suc-le-suc, suc-min-suc, zero-min, min-zero}
+use native.Mathlib.Numerals.{add-one}
 use native.Mathlib.Omega.{arith}
+use borrow.Author.Tests.{eqb-true, eqb-false}
 use lib.Dec.{eqb}
-use lib.IntN.{ℤ, negsuc}
-use lib.ListN.{take, length}
+use lib.IntN.{ℤ, pos, negsuc}
 use lib.Signed.{le_z}
-use Rattle.std.specs.List.{filter, enumerate_from, list_any, zip}
+use lib.ListN.{length, get_or, set, take, replicate, length-set, get_or-replicate}
+use lib.Seq.{get_or-set_same, get_or-set_other}
+use Rattle.std.specs.List.{filter, enumerate_from, list_any}
 use Rattle.std.proofs.lemmas.List.{map-id}
 use Rattle.propagation.specs.declared.Propagation.{Propagation}
-use Rattle.study.specs.declared.Entry.{Entry}
 use Rattle.study.specs.Add.{ours}
-use Rattle.request.specs.Request.{sounds_at, places_of, marks_of, count_to}
-use Rattle.request.specs.Private.{CloseSegments, hears, hears_among}
+use Rattle.request.specs.Request.{sounds_at, marks_of, count_to}
+use Rattle.request.specs.Private.{CloseSegments, SegmentsHeard, marked_by}
 use Rattle.request.proofs.Counts.{count_same, count_none, count_most, count_append}
-use Rattle.std.proofs.Common.{get_or}
 
--- such a search, whatever gives the entries' places
-heard_is : {A : Type 0} (of : A → ℕ) (k : ℕ) (es : List A) (cells : List ℤ) → list_any (λ (p : A × ℤ). eqb (of p.0) k && le_z (negsuc 1999) p.1) (zip es cells) ≡ sounds_at k (map of es) cells
+or_left : (a b : Bool) → (a || b) ≡ false → a ≡ false
+or_left true b e = cc
+or_left false b e = refl
+
+or_right : (a b : Bool) → (a || b) ≡ false → b ≡ false
+or_right true b e = cc
+or_right false b e = e
+
+or_assoc : (a b c : Bool) → (a || (b || c)) ≡ ((a || b) || c)
+or_assoc true b c = refl
+or_assoc false b c = refl
+
+-- one more entry
+sounds_more : (k : ℕ) (es : List ℕ) (cs : List ℤ) (i : ℕ) → i < length es → i < length cs
+    → sounds_at k (take (suc i) es) (take (suc i) cs) ≡ (sounds_at k (take i es) (take i cs) || (eqb (get_or es i 0) k && le_z (negsuc 1999) (get_or cs i (pos 0))))
 unfolding sounds_at
-heard_is of k [] cells = refl
-heard_is of k (e ∷ es) [] = refl
-heard_is of k (e ∷ es) (c ∷ cs) = ap (λ (b : Bool). (eqb (of e) k && le_z (negsuc 1999) c) || b) (heard_is of k es cs)
+sounds_more k [] cs i h l = absurd (not-suc-le-zero h)
+sounds_more k (e ∷ es) [] i h l = absurd (not-suc-le-zero l)
+sounds_more k (e ∷ es) (c ∷ cs) zero h l = or-false _
+sounds_more k (e ∷ es) (c ∷ cs) (suc i) h l =
+    ap (λ (b : Bool). (eqb e k && le_z (negsuc 1999) c) || b) (sounds_more k es cs i (le_of_suc-le-suc h) (le_of_suc-le-suc l))
+    ∙ or_assoc (eqb e k && le_z (negsuc 1999) c) (sounds_at k (take i es) (take i cs)) _
+
+pub marked_length : (heard : List Bool) (j : ℕ) (b : Bool) → length (marked_by heard j b) ≡ length heard
+unfolding marked_by
+marked_length heard j b = length-set heard j _
+
+marked_at : (heard : List Bool) (j k : ℕ) (b : Bool) → k < length heard → get_or (marked_by heard j b) k false ≡ (get_or heard k false || (eqb j k && b))
+unfolding marked_by
+marked_at heard j k b h = go (eqb j k) refl
+  where
+    go : (t : Bool) → eqb j k ≡ t → get_or (set heard j (get_or heard j false || b)) k false ≡ (get_or heard k false || (t && b))
+    go true e = rw (eqb-true j k e) (get_or-set_same heard k _ false h)
+    go false e = get_or-set_other heard j k _ false (λ z. eqb-false j k e (sym z)) ∙ sym (or-false _)
+
+-- the segments heard by the first i entries
+pub record HeardTo (es : List ℕ) (cs : List ℤ) (i : ℕ) (heard : List Bool) : Type 0 where
+  pub size : length heard ≡ ours.segments
+  pub each : (k : ℕ) → k < ours.segments → get_or heard k false ≡ sounds_at k (take i es) (take i cs)
+
+nothing_heard : (k : ℕ) (es : List ℕ) (cs : List ℤ) → sounds_at k (take 0 es) (take 0 cs) ≡ false
+unfolding sounds_at
+nothing_heard k es cs = refl
+
+pub heard_none : (es : List ℕ) (cs : List ℤ) → HeardTo es cs 0 (replicate ours.segments false)
+heard_none es cs = record { size = refl; each = λ k h. get_or-replicate ours.segments k false false h ∙ sym (nothing_heard k es cs) }
+
+pub heard_more : (es : List ℕ) (cs : List ℤ) (i : ℕ) (heard : List Bool) (e : ℕ) (b : Bool) → i < length es → i < length cs → HeardTo es cs i heard
+    → get_or es i 0 ≡ e → le_z (negsuc 1999) (get_or cs i (pos 0)) ≡ b → HeardTo es cs (i + 1) (marked_by heard e b)
+heard_more es cs i heard e b h l old f g =
+    record {
+      size = marked_length heard e b ∙ old.size;
+      each = λ k m. marked_at heard e k b (omega (arith, old.size)) ∙ rw (add-one, sounds_more k es cs i h l, old.each k m, f, g);
+    }
+
+-- past the end of either list nothing more is heard
+sounds_all : (k : ℕ) (es : List ℕ) (cs : List ℤ) → sounds_at k (take (min (length es) (length cs)) es) (take (min (length es) (length cs)) cs) ≡ sounds_at k es cs
+unfolding sounds_at
+sounds_all k [] cs = rw (zero-min (length cs)) refl
+sounds_all k (e ∷ es) [] = rw (min-zero (suc (length es))) refl
+sounds_all k (e ∷ es) (c ∷ cs) =
+    rw (suc-min-suc (length es) (length cs)) (ap (λ (b : Bool). (eqb e k && le_z (negsuc 1999) c) || b) (sounds_all k es cs))
+
+pub heard_all : (es : List ℕ) (cs : List ℤ) (i : ℕ) (heard : List Bool) → i ≡ min (length es) (length cs) → HeardTo es cs i heard → SegmentsHeard es cs heard
+heard_all es cs i heard e all = record { each = λ k h. all.each k h ∙ rw e (sounds_all k es cs) }
 
 -- ---- counted, segment by segment
 
@@ -71,28 +132,43 @@ module _ {A : Type 0} (mark : A → Bool) (heard : ℕ → Bool) where
       let first = ap {B = ℕ} (λ (b : Bool). cond b 1 0) (counted_first a rest k) in
       omega (arith, one_more (counted_one (k, a)) (k, a) (filter counted_one (take n (enumerate_from (k + 1) rest))), counted n (k + 1) rest, split, later, first)
 
-  close_by : {places : List ℕ} {levels : List ℤ} → ((k : ℕ) → heard k ≡ sounds_at k places levels) → (added : List A) {r : ℕ} → r ≡ length (filter counted_one (take ours.segments (enumerate_from 0 added))) → CloseSegments levels places (map mark added) r
+  close_by : {places : List ℕ} {levels : List ℤ} → ((k : ℕ) → k < ours.segments → heard k ≡ sounds_at k places levels) → (added : List A) {r : ℕ} → r ≡ length (filter counted_one (take ours.segments (enumerate_from 0 added))) → CloseSegments levels places (map mark added) r
   close_by {places} {levels} sounds added e =
       let all = counted ours.segments 0 added in
       let same =
-      count_same (counts 0 added) (λ k. get_or (map mark added) k false && sounds_at k places levels) ours.segments (λ j h. counted_at added j ∙ ap (λ (b : Bool). get_or (map mark added) j false && b) (sounds j)) in
+      count_same (counts 0 added) (λ k. get_or (map mark added) k false && sounds_at k places levels) ours.segments (λ j h. counted_at added j ∙ ap (λ (b : Bool). get_or (map mark added) j false && b) (sounds j h)) in
       record { is = e ∙ all ∙ same; most = omega (arith, e, all, count_most (counts 0 added) ours.segments) }
 
--- by the entries and what their segments add
-module _ (es : List Entry) (levels : List ℤ) where
-  abbrev pub is_counted : ℕ × Propagation → Bool
-  is_counted p = p.1.close && hears p.0 es levels
+-- where none is marked none is counted
+none_marked : {A : Type 0} (mark : A → Bool) (added : List A) → list_any mark added ≡ false → (k : ℕ) → get_or (map mark added) k false ≡ false
+none_marked mark [] e k = refl
+none_marked mark (a ∷ rest) e zero = or_left (mark a) (list_any mark rest) e
+none_marked mark (a ∷ rest) e (suc k) = none_marked mark rest (or_right (mark a) (list_any mark rest) e) k
 
-  pub close_segments_by : (added : List Propagation) {r : ℕ} → r ≡ length (filter is_counted (take ours.segments (enumerate_from 0 added))) → CloseSegments levels (places_of es) (marks_of added) r
-  close_segments_by added e = close_by (λ (a : Propagation). a.close) (λ (k : ℕ). hears k es levels) (λ k. heard_is (λ (e : Entry). e.segment) k es levels) added e
+pub close_none : {A : Type 0} (mark : A → Bool) (places : List ℕ) (levels : List ℤ) (added : List A) → list_any mark added ≡ false → CloseSegments levels places (map mark added) 0
+close_none mark places levels added e =
+    record {
+      is = sym (count_none (λ k. get_or (map mark added) k false && sounds_at k places levels) ours.segments (λ k. ap (λ (b : Bool). b && sounds_at k places levels) (none_marked mark added e k)));
+      most = omega arith;
+    }
 
--- and by the places of the entries' segments and the segments' marks
-module _ (places : List ℕ) (levels : List ℤ) where
-  abbrev pub is_counted_among : ℕ × Bool → Bool
-  is_counted_among p = p.1 && hears_among p.0 places levels
+-- by what the segments add
+abbrev pub is_counted : List Bool → ℕ × Propagation → Bool
+is_counted heard p = p.1.close && get_or heard p.0 false
 
-  sounds_among : (k : ℕ) → hears_among k places levels ≡ sounds_at k places levels
-  sounds_among k = heard_is (λ (j : ℕ). j) k places levels ∙ ap (λ (js : List ℕ). sounds_at k js levels) (map-id places)
+pub close_segments_by : {places : List ℕ} {levels : List ℤ} {heard : List Bool} → SegmentsHeard places levels heard → (added : List Propagation) {r : ℕ}
+    → r ≡ length (filter (is_counted heard) (take ours.segments (enumerate_from 0 added))) → CloseSegments levels places (marks_of added) r
+close_segments_by {heard = heard} all added e = close_by (λ (a : Propagation). a.close) (λ (k : ℕ). get_or heard k false) all.each added e
 
-  pub close_among_by : (close : List Bool) {r : ℕ} → r ≡ length (filter is_counted_among (take ours.segments (enumerate_from 0 close))) → CloseSegments levels places close r
-  close_among_by close {r} e = subst (λ (marks : List Bool). CloseSegments levels places marks r) (map-id close) (close_by (λ (b : Bool). b) (λ (k : ℕ). hears_among k places levels) sounds_among close e)
+-- and by the segments' marks
+abbrev pub is_counted_among : List Bool → ℕ × Bool → Bool
+is_counted_among heard p = p.1 && get_or heard p.0 false
+
+pub close_among_by : {places : List ℕ} {levels : List ℤ} {heard : List Bool} → SegmentsHeard places levels heard → (close : List Bool) {r : ℕ}
+    → r ≡ length (filter (is_counted_among heard) (take ours.segments (enumerate_from 0 close))) → CloseSegments levels places close r
+close_among_by {places} {levels} {heard} all close {r} e =
+    subst (λ (marks : List Bool). CloseSegments levels places marks r) (map-id close) (close_by (λ (b : Bool). b) (λ (k : ℕ). get_or heard k false) all.each close e)
+
+pub none_among : (places : List ℕ) (levels : List ℤ) (close : List Bool) → list_any (λ (b : Bool). b) close ≡ false → CloseSegments levels places close 0
+none_among places levels close e =
+    subst (λ (marks : List Bool). CloseSegments levels places marks 0) (map-id close) (close_none (λ (b : Bool). b) places levels close e)

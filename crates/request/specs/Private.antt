@@ -1,9 +1,6 @@
 -- What contracts of this crate's private functions cite: the parts of a request for levels.
 -- Assumes nothing.
-use Rattle.std.specs.Prelude.{◌≡◌, Bool, false, ◌&&◌, List, ℕ, ◌≤◌, eqb, ℤ, negsuc, get_or}
-use Rattle.std.specs.Int.Signed.{le_z}
-use Rattle.std.specs.List.{list_any, zip}
-use Rattle.study.specs.declared.Entry.{Entry}
+use Rattle.std.specs.Prelude.{◌≡◌, Bool, false, ◌&&◌, ◌||◌, List, ℕ, ◌≤◌, ◌<◌, ℤ, set, get_or}
 use Rattle.study.specs.Add.{ours}
 use Rattle.request.specs.Request.{sounds_at, count_to}
 
@@ -12,10 +9,10 @@ pub record CloseSegments (cells : List ℤ) (places : List ℕ) (close : List Bo
   pub is : r ≡ count_to (λ k. get_or close k false && sounds_at k places cells) ours.segments
   pub most : r ≤ ours.segments
 
--- some entry of segment k has a level, as a search through the entries finds it
-abbrev pub hears : ℕ → List Entry → List ℤ → Bool
-hears k es cells = list_any (λ (p : Entry × ℤ). eqb p.0.segment k && le_z (negsuc 1999) p.1) (zip es cells)
+-- the segment at a place marked as heard, if it sounds; past the last nothing is
+unfoldable pub marked_by : List Bool → ℕ → Bool → List Bool
+marked_by heard k sounds = set heard k (get_or heard k false || sounds)
 
--- as a search through the places of the entries' segments finds it
-abbrev pub hears_among : ℕ → List ℕ → List ℤ → Bool
-hears_among k places cells = list_any (λ (p : ℕ × ℤ). eqb p.0 k && le_z (negsuc 1999) p.1) (zip places cells)
+-- which segments have an entry with a level
+pub record SegmentsHeard (places : List ℕ) (cells : List ℤ) (heard : List Bool) : Type 0 where
+  pub each : (k : ℕ) → k < ours.segments → get_or heard k false ≡ sounds_at k places cells

@@ -1,7 +1,8 @@
 // The request for levels: each entry's level in the working cells, and both periods' results.
 #![tactic(auto)]
 
-ghost use Rattle.std.specs.Prelude.{◌≡◌, ◌+◌, ◌*◌, ◌-◌, ◌≤◌, pos, length, get_or, take};
+ghost use Rattle.std.specs.Prelude.{◌≡◌, ◌+◌, ◌*◌, ◌-◌, ◌≤◌, false, pos, length, get_or, take};
+ghost use Rattle.std.specs.List.{list_any};
 ghost use Rattle.emission.specs.Emission.{raised};
 ghost use Rattle.emission.specs.Results.{SmallLevel};
 ghost use Rattle.energy.specs.Total.{heard};
@@ -11,7 +12,7 @@ ghost use Rattle.figures.specs.Refusal.{check_number, check_of};
 ghost use Rattle.study.specs.Add.{ours};
 ghost use Rattle.request.specs.Levels.{cell_of, limit_of, met_by, result_from};
 ghost use Rattle.request.specs.Request.{Answered, AnsweredFrom, cells_needed, cells_from, request_number, levels_number, entry_cells, places_of, tenths_of, marks_of, period_from, TotalAllowed, first_cell, written};
-ghost use Rattle.request.specs.Private.{CloseSegments, hears, hears_among};
+ghost use Rattle.request.specs.Private.{CloseSegments, SegmentsHeard, marked_by};
 
 use arrayvec::ArrayVec;
 use decibel::Level;
@@ -66,32 +67,71 @@ fn tenths_at(added: &[Propagation], place: usize) -> i16
     added.get(place).map_or(0, |part| part.tenths)
 }
 
-// Whether the segment at a place has an entry with a level.
-fn sounds(place: usize, entries: &[Entry], levels: &[i32]) -> bool
-    ensures { result ≡ hears place entries.now levels.now }
+// Whether the mark at a place is set; not past the last.
+fn is_marked(marks: &[bool], k: usize) -> bool
+    ensures { result ≡ get_or marks.now k false }
 {
-    entries.iter().zip(levels).any(|(entry, level)| entry.segment == place && LEAST_LEVEL <= *level)
+    marks.get(k).copied().unwrap_or(false)
 }
 
-// Whether it has one, by the places of the entries' segments.
-fn sounds_among(place: usize, places: &[usize], levels: &[i32]) -> bool
-    ensures { result ≡ hears_among place places.now levels.now }
+// Marks the segment at a place as heard, if it sounds.
+fn mark(heard: &mut [bool], k: usize, sounds: bool)
+    ensures { heard.new ≡ marked_by heard.old k sounds }
 {
-    places
-        .iter()
-        .zip(levels)
-        .any(|(of, level)| *of == place && LEAST_LEVEL <= *level)
+    if k < heard.len() {
+        heard[k] = heard[k] | sounds;
+    }
+}
+
+// Which segments have an entry with a level. All at once: a search for each close segment looks through up to 96 entries 24 times.
+fn heard_segments(entries: &[Entry], levels: &[i32]) -> [bool; MOST_SEGMENTS]
+    ensures { SegmentsHeard (places_of entries.now) levels.now result }
+{
+    let mut heard = [false; MOST_SEGMENTS];
+    for i in 0..entries.len().min(levels.len()) {
+        mark(&mut heard, entries[i].segment, LEAST_LEVEL <= levels[i]);
+    }
+    heard
+}
+
+// Which have one, by the places of the entries' segments.
+fn heard_among(places: &[usize], levels: &[i32]) -> [bool; MOST_SEGMENTS]
+    ensures { SegmentsHeard places.now levels.now result }
+{
+    let mut heard = [false; MOST_SEGMENTS];
+    for i in 0..places.len().min(levels.len()) {
+        mark(&mut heard, places[i], LEAST_LEVEL <= levels[i]);
+    }
+    heard
+}
+
+// Whether any segment is close. Few are, and where none is, nobody needs to know which are heard.
+fn any_close(added: &[Propagation]) -> bool
+    ensures { result ≡ list_any (λ a. a.close) added.now }
+{
+    added.iter().any(|part| part.close)
+}
+
+// Whether any is, by the segments' close marks.
+fn any_marked(close: &[bool]) -> bool
+    ensures { result ≡ list_any (λ marked. marked) close.now }
+{
+    close.iter().any(|marked| *marked)
 }
 
 // How many segments are marked as close and heard in the levels of a period.
 fn close_segments(levels: &[i32], entries: &[Entry], added: &[Propagation]) -> u32
     ensures { CloseSegments levels.now (places_of entries.now) (marks_of added.now) result }
 {
+    if !any_close(added) {
+        return 0;
+    }
+    let heard = heard_segments(entries, levels);
     added
         .iter()
         .enumerate()
         .take(MOST_SEGMENTS)
-        .filter(|(k, part)| part.close && sounds(*k, entries, levels))
+        .filter(|(k, part)| part.close && is_marked(&heard, *k))
         .count() as u32
 }
 
@@ -99,11 +139,15 @@ fn close_segments(levels: &[i32], entries: &[Entry], added: &[Propagation]) -> u
 fn close_among(levels: &[i32], places: &[usize], close: &[bool]) -> u32
     ensures { CloseSegments levels.now places.now close.now result }
 {
+    if !any_marked(close) {
+        return 0;
+    }
+    let heard = heard_among(places, levels);
     close
         .iter()
         .enumerate()
         .take(MOST_SEGMENTS)
-        .filter(|(k, marked)| **marked && sounds_among(*k, places, levels))
+        .filter(|(k, marked)| **marked && is_marked(&heard, *k))
         .count() as u32
 }
 
@@ -173,7 +217,10 @@ pub fn write_levels(levels: &[i32], cells: &mut [i32], at: usize)
     if cells.len() - at < levels.len() {
         return;
     }
-    cells[at..at + levels.len()].copy_from_slice(levels);
+    // A cell at a time and not by `copy_from_slice`, for which the archives would need memmove of the C library.
+    for (i, level) in levels.iter().enumerate() {
+        cells[at + i] = *level;
+    }
 }
 
 // Where a period's levels begin among the cells of so many entries: the day's come first.
