@@ -1,8 +1,8 @@
 -- Laws of a breakdown's lines: what each is written from, and one line after another.
 -- Assumes nothing.
-use mathlib.Core.Path.{◌≡◌, refl, sym, ◌∙◌}
+use mathlib.Core.Path.{◌≡◌, refl, sym, ap, ◌∙◌}
 use mathlib.Core.Bool.{Bool, true, false, cond}
-use mathlib.Core.List.{List, [], ◌∷◌, ◌++◌, append-nil, flatten}
+use mathlib.Core.List.{List, [], ◌∷◌, ◌++◌, append-nil, append_assoc, flatten}
 use Prim.Native.Nat.{ℕ, ◌+◌, ◌*◌, ◌<◌, ◌≤◌, ◌^◌}
 use native.Mathlib.Numerals.{add-one}
 use native.Mathlib.Omega.{arith}
@@ -147,25 +147,25 @@ each_more : (parts : ℕ → List (List ℕ)) (k : ℕ) → flatten (each_below 
 unfolding each_below
 each_more parts k = rw (add-one k) (sym (flatten_append (each_below k parts) (parts k)))
 
--- the lines so far, and no more room taken than so many bytes a line
-pub record Lines (parts : ℕ → List (List ℕ)) (k : ℕ) (bytes : List ℕ) : Type 0 where
-  pub is : bytes ≡ flatten (each_below k parts)
-  pub room : length bytes ≤ 256 * k
+-- the lines so far after what was written before, and no more room taken than so many bytes a line
+pub record Lines (parts : ℕ → List (List ℕ)) (k : ℕ) (before bytes : List ℕ) : Type 0 where
+  pub is : bytes ≡ before ++ flatten (each_below k parts)
+  pub room : length bytes ≤ length before + 256 * k
 
-pub no_lines : (parts : ℕ → List (List ℕ)) {bytes : List ℕ} → bytes ≡ [] → Lines parts 0 bytes
+pub no_lines : (parts : ℕ → List (List ℕ)) (before : List ℕ) → Lines parts 0 before before
 unfolding each_below flatten
-no_lines parts e = record { is = e; room = rw e (omega arith) }
+no_lines parts before = record { is = sym (append-nil before); room = omega arith }
 
-pub line_more : {parts : ℕ → List (List ℕ)} {k : ℕ} {before line after : List ℕ}
-    → Lines parts k before
+pub line_more : {parts : ℕ → List (List ℕ)} {k : ℕ} {before so_far line after : List ℕ}
+    → Lines parts k before so_far
     → length line ≤ 256
     → line ≡ flatten (parts k)
-    → after ≡ before ++ line
-    → Lines parts (k + 1) after
-line_more {parts} {k} {before} {line} so_far h is e =
+    → after ≡ so_far ++ line
+    → Lines parts (k + 1) before after
+line_more {parts} {k} {before} {so_far} {line} lines h is e =
     record {
-      is = e ∙ rw (so_far.is, is) (each_more parts k);
-      room = rw (e, length-append before line) (omega (arith, so_far.room));
+      is = e ∙ rw (lines.is, is) (append_assoc before (flatten (each_below k parts)) (flatten (parts k)) ∙ ap (λ (xs : List ℕ). before ++ xs) (each_more parts k));
+      room = rw (e, length-append so_far line) (omega (arith, lines.room));
     }
 
 -- the request for levels answers so

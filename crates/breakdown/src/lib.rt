@@ -1,10 +1,9 @@
 // A study's breakdown: the parts of each segment, and those of each train entry beside its levels, a line for each.
 #![tactic(auto)]
 
-ghost use Rattle.std.specs.Prelude.{◌≡◌, pos, get_or, cond, Some};
+ghost use Rattle.std.specs.Prelude.{◌≡◌, ◌≤◌, ◌+◌, ◌++◌, length, pos, get_or, cond, Some};
 ghost use Rattle.figures.specs.Rules.{unscreened};
 ghost use Rattle.writing.specs.Bytes.{ascii};
-ghost use Rattle.text.specs.Answer.{plan_in};
 ghost use Rattle.breakdown.specs.Lines.{close_part, cell_level, place_number};
 ghost use Rattle.breakdown.specs.Private.{segment_bytes, entry_bytes};
 ghost use Rattle.breakdown.specs.Breakdown.{segments_bytes, entries_bytes, study_bytes, text_bytes, StudyBrokenDown, BrokenDown};
@@ -169,25 +168,27 @@ impl EntryLine {
     }
 }
 
-// A line for each segment.
-fn segment_lines(study: &Study) -> ArrayString<SEGMENTS_BYTES>
-    ensures { result.bytes ≡ segments_bytes study.now }
+// A line for each segment, after what is written already. All lines go into one text, which is lent: a text of each kind of lines, put
+// together afterwards, would be filled and copied each time, 30 kB or more for the shortest study.
+fn segment_lines(study: &Study, lines: &mut ArrayString<TEXT_BYTES>)
+    requires { length lines.old.bytes + SEGMENTS_BYTES ≤ TEXT_BYTES }
+    ensures is { lines.new.bytes ≡ lines.old.bytes ++ segments_bytes study.now }
+    ensures room { length lines.new.bytes ≤ length lines.old.bytes + SEGMENTS_BYTES }
 {
-    let mut lines = ArrayString::new();
     for (k, segment) in study.segments().iter().enumerate() {
         let number = k + 1;
         lines.push_str(segment_line(number, *segment).as_str());
     }
-    lines
 }
 
-// A line for each train entry, from the cells that the request for levels leaves.
-fn entry_lines(study: &Study, cells: &[i32]) -> ArrayString<ENTRIES_BYTES>
-    ensures { result.bytes ≡ entries_bytes study.now cells.now }
+// A line for each train entry, from the cells that the request for levels leaves, likewise.
+fn entry_lines(study: &Study, cells: &[i32], lines: &mut ArrayString<TEXT_BYTES>)
+    requires { length lines.old.bytes + ENTRIES_BYTES ≤ TEXT_BYTES }
+    ensures is { lines.new.bytes ≡ lines.old.bytes ++ entries_bytes study.now cells.now }
+    ensures room { length lines.new.bytes ≤ length lines.old.bytes + ENTRIES_BYTES }
 {
     let entries = study.entries();
     let count = entries.len();
-    let mut lines = ArrayString::new();
     for (k, entry) in entries.iter().enumerate() {
         let (day, night) = (cell_at(cells, k), cell_at(cells, count + k));
         let line = EntryLine {
@@ -198,7 +199,6 @@ fn entry_lines(study: &Study, cells: &[i32]) -> ArrayString<ENTRIES_BYTES>
         };
         lines.push_str(line.text().as_str());
     }
-    lines
 }
 
 // A study with the cells that the request for its levels leaves: it is written as a line for each segment, and one for each train entry.
@@ -209,13 +209,23 @@ pub struct StudyBreakdown<'a> {
 }
 
 impl StudyBreakdown<'_> {
+    // Writes it into a text that is lent, over what that has. So one text serves for many, where `text` fills and copies one each time.
+    pub fn write(&self, lines: &mut ArrayString<TEXT_BYTES>)
+        ensures is { lines.new.bytes ≡ study_bytes self.now }
+        ensures room { length lines.new.bytes ≤ STUDY_BYTES }
+    {
+        lines.clear();
+        segment_lines(self.study, lines);
+        entry_lines(self.study, &self.cells, lines);
+    }
+
     // What is written of it.
     pub fn text(&self) -> ArrayString<STUDY_BYTES>
         ensures { result.bytes ≡ study_bytes self.now }
     {
-        let segments = segment_lines(self.study);
-        let entries = entry_lines(self.study, &self.cells);
-        concatenated(&[segments.as_str(), entries.as_str()])
+        let mut lines = ArrayString::new();
+        self.write(&mut lines);
+        concatenated(&[lines.as_str()])
     }
 }
 
@@ -237,13 +247,21 @@ pub struct TextBreakdown {
 }
 
 impl TextBreakdown {
+    // Writes it into a text that is lent, over what that has, as a study's breakdown.
+    pub fn write(&self, lines: &mut ArrayString<TEXT_BYTES>)
+        ensures { lines.new.bytes ≡ text_bytes self.now }
+    {
+        study_breakdown(&self.study).write(lines);
+        lines.push_str(self.outcome.text().as_str());
+    }
+
     // What is written of it.
     pub fn text(&self) -> ArrayString<TEXT_BYTES>
         ensures { result.bytes ≡ text_bytes self.now }
     {
-        let lines = study_breakdown(&self.study).text();
-        let report = self.outcome.text();
-        concatenated(&[lines.as_str(), report.as_str()])
+        let mut lines = ArrayString::new();
+        self.write(&mut lines);
+        lines
     }
 }
 
@@ -256,20 +274,12 @@ impl fmt::Display for TextBreakdown {
     }
 }
 
-// The study that is read from a text: the empty one where it is refused.
-#[tactic(auto, unfolding(text::specs::Answer::reading_of, text::specs::Text::accepted_with, text::specs::Text::refused_at))]
-fn study_in(text: &[u8]) -> Study
-    ensures { result ≡ plan_in text.now }
-{
-    text::read_text(text).unwrap_or_else(|_| Study::new())
-}
-
 // The breakdown of a text.
 pub fn text_breakdown(text: &[u8]) -> TextBreakdown
     ensures { BrokenDown text.now result }
 {
     TextBreakdown {
-        study: study_in(text),
+        study: text::study_of(text),
         outcome: report::report(text),
     }
 }

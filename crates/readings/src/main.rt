@@ -11,24 +11,27 @@ mod merges;
 
 ghost use Rattle.std.specs.Prelude.{◌≤◌, length, IfOk};
 
+use arrayvec::ArrayString;
+use breakdown::TEXT_BYTES;
 use memchr::memchr;
 use std::io;
 use std::io::Read;
 
-// Writes the breakdown of a text, at once.
-fn show(rt: &impl Print, text: &[u8]) -> io::Result<()> {
-    let lines = breakdown::text_breakdown(text).text();
+// Writes the breakdown of a text, at once, by way of the lines.
+fn show(rt: &impl Print, text: &[u8], lines: &mut ArrayString<TEXT_BYTES>) -> io::Result<()> {
+    breakdown::text_breakdown(text).write(lines);
     rt.write_all(lines.as_str().as_bytes())
 }
 
 // Writes each text of a list under its title.
 fn show_each(rt: &impl Print, list: &[u8]) -> io::Result<()> {
+    let mut lines = ArrayString::new();
     let mut rest = list;
     while let Some(end) = memchr(b'\n', rest) {
         let (title, after) = rest.split_at(end + 1);
         let next = memchr(b'#', after).unwrap_or(after.len());
         rt.write_all(title)?;
-        show(rt, &after[..next])?;
+        show(rt, &after[..next], &mut lines)?;
         rest = &after[next..];
     }
     Ok(())

@@ -5,4 +5,4 @@ use Rattle.breakdown.proofs.text_breakdown.Goals as goal
 
 pub returns : goal.returns
 unfolding text_bytes
-returns c = record { bytes = text_is c.args.text.now c.study_in.ensures c.report.ensures.output; allowed = c.report.ensures.allowed }
+returns c = record { bytes = text_is c.args.text.now c.study_of.ensures c.report.ensures.output; allowed = c.report.ensures.allowed }

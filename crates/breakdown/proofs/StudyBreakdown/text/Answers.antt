@@ -1,14 +1,12 @@
 -- `breakdown::StudyBreakdown::text` meets its contract.
-use Rattle.std.proofs.Common.{arith, refl, ◌∙◌, ◌≤◌, length}
-use Rattle.writing.proofs.Concatenation.{fits_two}
-use Rattle.breakdown.specs.Breakdown.{study_bytes}
+use Rattle.std.proofs.Common.{◌∙◌, ◌≤◌, length}
+use mathlib.Core.List.{[], ◌∷◌, append-nil, flatten}
+use Rattle.writing.proofs.Concatenation.{fits_as}
 use Rattle.breakdown.proofs.StudyBreakdown.text.Goals as goal
 
 pub returns : goal.returns
-unfolding study_bytes
+unfolding flatten
 returns c =
-    let segments : length c.as_str.result.now ≤ 6144 = c.as_str.ensures.fits in
-    let entries : length c.as_str-2.result.now ≤ 24576 = c.as_str-2.ensures.fits in
-    c.concatenated.ensures
-    ∙ fits_two 30720 c.as_str.result.now c.as_str-2.result.now (omega (arith, segments, entries))
-    ∙ rw (c.as_str.ensures.value, c.as_str-2.ensures.value, c.segment_lines-segments.ensures, c.entry_lines-entries.ensures) refl
+    let lines = c.as_str.ensures.value in
+    let room : length c.write.new.lines.bytes ≤ 30720 = c.write.ensures.room in
+    c.concatenated.ensures ∙ fits_as 30720 (c.as_str.result.now ∷ []) (append-nil c.as_str.result.now) (rw lines room) ∙ lines ∙ c.write.ensures.is
