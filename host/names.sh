@@ -10,7 +10,7 @@ take_archives "${1:-}" "${2:-}"
 
 status=0
 for file in "$archive" "$requests_archive"; do
-    needed=$(nm -u "$file" | awk '$1 == "U" { print $2 }' | sort -u | tr '\n' ' ')
+    needed=$(nm -u "$file" | awk 'NF == 2 { print $2 }' | sort -u | tr '\n' ' ')
     case $needed in
     "memcpy memset ") verdict=right ;;
     *)
